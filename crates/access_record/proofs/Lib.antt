@@ -4,3 +4,4 @@ mod Logs
 mod Ordered
 mod Steps
 mod Walk
+mod InTurns

@@ -1,6 +1,6 @@
 -- The accesses in recorded order are met core by core, and their records are taken.
-use Rattle.std.proofs.Common.{◌≡◌, ℕ, zero, suc, ◌+◌, ◌<◌, ◌≤◌, true, false, cond, eqb, Option, List, [], ◌∷◌, ◌++◌, All, Some, append-nil, append_assoc, length, map, get_or, set, drop, refl, sym, ap, ap₂, ◌∙◌, subst, arith, inl, inr}
-use Rattle.std.specs.List.{AllByRecursion, slice_get}
+use Rattle.std.proofs.Common.{◌≡◌, ℕ, zero, suc, ◌+◌, ◌<◌, ◌≤◌, true, false, Option, List, [], ◌∷◌, ◌++◌, All, Some, append-nil, append_assoc, length, map, get_or, set, drop, refl, sym, ap, ap₂, ◌∙◌, subst, arith, inl, inr}
+use Rattle.std.specs.List.{slice_get}
 use Rattle.std.specs.Option.{option_map}
 use Rattle.std.specs.Prelude.{replicate}
 use Rattle.std.proofs.lemmas.Bool.{cases_eq, eq-eqb, ne_eqb}
@@ -8,11 +8,11 @@ use Rattle.std.proofs.lemmas.List.{drop_all, get_or-map, get_or-set_other, get_o
 use Rattle.std.proofs.lemmas.Option.{get_or_from_slice_get, slice_get-map, slice_get_within}
 use Rattle.zs_num.specs.declared.entry.Entry.{Entry}
 use Rattle.access_log.specs.History.{of_core}
-use Rattle.access_record.specs.BankLogs.{AreOwn, BankLogState, byte_of, entries_in, makes_events}
+use Rattle.access_record.specs.BankLogs.{BankLogState, byte_of, makes_events}
 use Rattle.access_record.specs.Laws.{beyond_hits, kept_of}
 use Rattle.access_record.specs.RecordLogs.{RecordLogState}
-use Rattle.access_record.specs.RecordedAccesses.{AreInOrder, AreRecordsOf, IsWalking}
-use Rattle.access_record.proofs.Steps.{both_all, next_of, zero_at}
+use Rattle.access_record.specs.RecordedAccesses.{AreRecordsOf, IsWalking}
+use Rattle.access_record.proofs.Steps.{next_of, zero_at}
 
 pub drop_step : (xs : List Entry) (n : ℕ) (e : Entry) (ys : List Entry) → drop n xs ≡ e ∷ ys → (n < length xs) × (slice_get xs n ≡ Some e) × (drop (n + 1) xs ≡ ys)
 drop_step [] zero e ys same = cc
@@ -23,14 +23,14 @@ drop_step (x ∷ xs) (suc n) e ys same =
     let k : suc n + 1 ≡ suc (n + 1) = omega arith in
     (omega (arith, r.0), r.1, ap (λ (m : ℕ). drop m (x ∷ xs)) k ∙ r.2)
 
-own_first : (e : Entry) (rest : List Entry) → of_core e.core (e ∷ rest) ≡ e ∷ of_core e.core rest
+pub own_first : (e : Entry) (rest : List Entry) → of_core e.core (e ∷ rest) ≡ e ∷ of_core e.core rest
 own_first e rest = rw (eq-eqb e.core e.core refl) refl
 
-other_first : (i : ℕ) (e : Entry) (rest : List Entry) → (i ≡ e.core → ⊥) → of_core i (e ∷ rest) ≡ of_core i rest
+pub other_first : (i : ℕ) (e : Entry) (rest : List Entry) → (i ≡ e.core → ⊥) → of_core i (e ∷ rest) ≡ of_core i rest
 other_first i e rest other = rw (ne_eqb e.core i (λ s. other (sym s))) refl
 
 -- one of several counts goes on by one
-counted : {X : Type 0} (list_of : X → List Entry) (xs : List X) (counts : List ℕ) (k : ℕ) (before after : ℕ → List Entry) (e : Entry)
+pub counted : {X : Type 0} (list_of : X → List Entry) (xs : List X) (counts : List ℕ) (k : ℕ) (before after : ℕ → List Entry) (e : Entry)
     → k < length counts → ((i : ℕ) (x : X) → slice_get xs i ≡ Some x → drop (get_or counts i 0) (list_of x) ≡ before i)
     → before k ≡ e ∷ after k → ((i : ℕ) → (i ≡ k → ⊥) → before i ≡ after i)
     → (i : ℕ) (x : X) → slice_get xs i ≡ Some x → drop (get_or (set counts k (get_or counts k 0 + 1)) i 0) (list_of x) ≡ after i
@@ -141,75 +141,21 @@ module _ (begin base : ℕ) (recorded : List Entry) (logs : List BankLogState) (
       (more ∙ ap (λ (y : Entry). items ++ y ∷ []) x_so)
 
 -- ---- at the beginning
-below_most : (core most : ℕ) (xs : List Entry) → AllByRecursion (λ e. e.core ≡ core) xs → core < most → AllByRecursion (λ e. e.core < most) xs
-below_most core most [] own known = tt
-below_most core most (x ∷ xs) own known = (omega (arith, own.0), below_most core most xs own.1 known)
 
-of_all : (k : ℕ) (xs : List Entry) → AllByRecursion (λ e. e.core ≡ k) xs → of_core k xs ≡ xs
-of_all k [] own = refl
-of_all k (x ∷ xs) own = rw (eq-eqb x.core k own.0) (ap (λ ys. x ∷ ys) (of_all k xs own.1))
-
-of_none : (k other : ℕ) (xs : List Entry) → AllByRecursion (λ e. e.core ≡ other) xs → (other ≡ k → ⊥) → of_core k xs ≡ []
-of_none k other [] own apart = refl
-of_none k other (x ∷ xs) own apart = rw (ne_eqb x.core k (λ s. apart (sym own.0 ∙ s))) (of_none k other xs own.1 apart)
-
-of_both : (k : ℕ) (xs ys : List Entry) → of_core k (xs ++ ys) ≡ of_core k xs ++ of_core k ys
-of_both k [] ys = refl
-of_both k (x ∷ xs) ys =
-    elim (eqb x.core k) as (λ b. cond b (x ∷ of_core k (xs ++ ys)) (of_core k (xs ++ ys)) ≡ cond b (x ∷ of_core k xs) (of_core k xs) ++ of_core k ys) [
-      | true ↦ ap (λ zs. x ∷ zs) (of_both k xs ys)
-      | false ↦ of_both k xs ys
-    ]
-
-none_before : (logs : List BankLogState) (first k : ℕ) → k < first → ((i : ℕ) (log : BankLogState) → slice_get logs i ≡ Some log → log.core ≡ first + i) → AreOwn logs → of_core k (entries_in logs) ≡ []
-none_before [] first k less order own = refl
-none_before (l ∷ logs) first k less order own =
-    of_both k l.entries (entries_in logs)
-    ∙ ap₂ (λ (xs ys : List Entry). xs ++ ys) (of_none k l.core l.entries own.0 (λ s. let h : l.core ≡ first + 0 = order 0 l refl in omega arith))
-    (none_before logs (first + 1) k (omega arith) (λ i log at. let h = order (suc i) log at in omega arith) own.1)
-
-of_log : (logs : List BankLogState) (first : ℕ) → ((i : ℕ) (log : BankLogState) → slice_get logs i ≡ Some log → log.core ≡ first + i) → AreOwn logs → (i : ℕ) (log : BankLogState) → slice_get logs i ≡ Some log → of_core (first + i) (entries_in logs) ≡ log.entries
-of_log [] first order own i log at = cc
-of_log (l ∷ logs) first order own zero log at =
-    let here : l.core ≡ first + 0 = order 0 l refl in
-    let same : l ≡ log = cc in
-    of_both (first + 0) l.entries (entries_in logs)
-    ∙ (ap₂ (λ (xs ys : List Entry). xs ++ ys) (subst (λ (k : ℕ). of_core k l.entries ≡ l.entries) here (of_all l.core l.entries own.0))
-    (none_before logs (first + 1) (first + 0) (omega arith) (λ i log at. let h = order (suc i) log at in omega arith) own.1)
-    ∙ (append-nil l.entries ∙ ap (λ (x : BankLogState). x.entries) same))
-of_log (l ∷ logs) first order own (suc i) log at =
-    let there : of_core (first + 1 + i) (entries_in logs) ≡ log.entries = of_log logs (first + 1) (λ i log at. let h = order (suc i) log at in omega arith) own.1 i log at in
-    let here : l.core ≡ first + 0 = order 0 l refl in
-    let k : first + suc i ≡ first + 1 + i = omega arith in
-    of_both (first + suc i) l.entries (entries_in logs)
-    ∙ (ap (λ (xs : List Entry). xs ++ of_core (first + suc i) (entries_in logs)) (of_none (first + suc i) l.core l.entries own.0 (λ s. omega arith))
-    ∙ (ap (λ (n : ℕ). of_core n (entries_in logs)) k ∙ there))
-
-pub known_cores : (logs : List BankLogState) (first most : ℕ) → ((i : ℕ) (log : BankLogState) → slice_get logs i ≡ Some log → log.core ≡ first + i) → first + length logs ≤ most → AreOwn logs → AllByRecursion (λ e. e.core < most) (entries_in logs)
-known_cores [] first most order few own = tt
-known_cores (l ∷ logs) first most order few own =
-    let here : l.core ≡ first + 0 = order 0 l refl in
-    both_all (λ e. e.core < most) l.entries (entries_in logs) (below_most l.core most l.entries own.0 (omega arith))
-    (known_cores logs (first + 1) most (λ i log at. let h = order (suc i) log at in omega arith) (omega arith) own.1)
-
-pub walk_begins : (begin base : ℕ) (logs : List BankLogState) (records : List RecordLogState) (recorded first : List Entry) → AreInOrder logs → AreOwn logs → AreRecordsOf begin base logs records
-    → ((core : ℕ) → of_core core recorded ≡ of_core core (entries_in logs))
+pub walk_begins : (begin base : ℕ) (logs : List BankLogState) (records : List RecordLogState) (recorded first : List Entry) → AreRecordsOf begin base logs records
+    → ((i : ℕ) (log : BankLogState) → slice_get logs i ≡ Some log → of_core i recorded ≡ log.entries)
     → (met taken : List ℕ) → met ≡ replicate (length logs) 0 → taken ≡ replicate (length logs) 0
     → IsWalking begin base recorded logs records first recorded met taken first
-walk_begins begin base logs records recorded first order own kept same met taken met_are taken_are =
-    let each : (i : ℕ) (log : BankLogState) → slice_get logs i ≡ Some log → log.entries ≡ of_core i recorded = (λ i log at.
-    let k : 0 + i ≡ i = omega arith in
-    sym (of_log logs 0 (λ j l there. let h = order j l there in omega arith) own i log at) ∙ (ap (λ (n : ℕ). of_core n (entries_in logs)) k ∙ sym (same i))) in
-    record {
-      listed = refl;
-      met_so = λ i log at. ap (λ (n : ℕ). drop n log.entries) (ap (λ (c : List ℕ). get_or c i 0) met_are ∙ zero_at (length logs) i) ∙ each i log at;
-      taken_so = λ i log at.
-          let l = has_at logs i (omega (arith, slice_get_within records i log at, kept.as_many)) in
-          ap (λ (n : ℕ). drop n log.entries) (ap (λ (c : List ℕ). get_or c i 0) taken_are ∙ zero_at (length logs) i)
-          ∙ ((kept.each i l.0 log l.1 at).entries_are ∙ ap beyond_hits (each i l.0 l.1));
-      as_many_met = ap length met_are ∙ length-replicate (length logs) 0;
-      as_many_taken = ap length taken_are ∙ (length-replicate (length logs) 0 ∙ sym kept.as_many);
-    }
+walk_begins begin base logs records recorded first kept own met taken met_are taken_are = record {
+  listed = refl;
+  met_so = λ i log at. ap (λ (n : ℕ). drop n log.entries) (ap (λ (c : List ℕ). get_or c i 0) met_are ∙ zero_at (length logs) i) ∙ sym (own i log at);
+  taken_so = λ i log at.
+      let l = has_at logs i (omega (arith, slice_get_within records i log at, kept.as_many)) in
+      ap (λ (n : ℕ). drop n log.entries) (ap (λ (c : List ℕ). get_or c i 0) taken_are ∙ zero_at (length logs) i)
+      ∙ ((kept.each i l.0 log l.1 at).entries_are ∙ ap beyond_hits (sym (own i l.0 l.1)));
+  as_many_met = ap length met_are ∙ length-replicate (length logs) 0;
+  as_many_taken = ap length taken_are ∙ (length-replicate (length logs) 0 ∙ sym kept.as_many);
+}
 
 pub core_next : (recorded : List Entry) (cores : List ℕ) (i many : ℕ) → cores ≡ map (λ e. e.core) recorded → All (λ e. e.core < many) recorded → i < length cores
     → (e : Entry) × (drop i recorded ≡ e ∷ drop (i + 1) recorded) × (e.core ≡ get_or cores i 0) × (get_or cores i 0 < many)

@@ -1,6 +1,6 @@
 -- What is kept of the accesses of a core where their entries are not.
 use Rattle.std.specs.Prelude.{◌≡◌, ℕ, ◌+◌, ◌<◌, ◌≤◌, ◌^◌, Bool, true, false, if◌then◌else◌, List, All, map, length}
-use Rattle.std.specs.List.{AllByRecursion, flat_map}
+use Rattle.std.specs.List.{flat_map}
 use Rattle.zs_num.specs.declared.entry.Entry.{Entry}
 use Rattle.zs_num.specs.declared.entry.Outcome.{Outcome}
 use Rattle.zs_num.specs.declared.entry.Outcome.TheVariants.{Hit, Upgrade, L2, Miss}
@@ -30,10 +30,6 @@ pub record BankLogState : Type 0 where
 -- the accesses of all logs, one log after the other
 abbrev pub entries_in : List BankLogState → List Entry
 entries_in logs = flat_map (λ log. log.entries) logs
-
--- the accesses of each log are of its core
-abbrev pub AreOwn : List BankLogState → Type 0
-AreOwn logs = AllByRecursion (λ log. AllByRecursion (λ e. e.core ≡ log.core) log.entries) logs
 
 -- a log has a byte for each access
 pub record IsKept (log : BankLogState) (bytes : List ℕ) : Type 0 where

@@ -5,3 +5,4 @@ pub mod Outcomes
 pub mod RecordLogs
 pub mod RecordedAccesses
 pub mod Records
+pub mod Turns

@@ -120,6 +120,18 @@ impl BankLog {
         has_events(self.bytes[place as usize])
     }
 
+    /// The bank of the access at a place.
+    #[inline(always)]
+    pub fn bank_at(&self, place: u32) -> u16
+        requires { place < length self.now.entries }
+        ensures bank { (e : Entry) → slice_get self.now.entries place ≡ Some e → result ≡ bank_of_entry self.now.banks e }
+        ensures own { All (λ e. e.core ≡ self.now.core) self.now.entries }
+        ensures some { 0 < self.now.banks }
+        ensures few { length self.now.entries < 2 ^ 32 }
+    {
+        bank_of_byte(self.bytes[place as usize])
+    }
+
     /// Forgets the accesses, and keeps the room.
     pub fn clear(&mut self)
         ensures { self.new ≡ record self.old { entries = [] } }

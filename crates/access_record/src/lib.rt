@@ -12,9 +12,11 @@ mod order;
 mod outcomes;
 mod record;
 mod record_log;
+mod turns;
 
 pub use accesses::recorded_accesses;
 pub use bank_log::{BankLog, bank_of_byte, has_events};
 pub use order::recorded_cores;
 pub use record::Record;
 pub use record_log::RecordLog;
+pub use turns::Turns;

@@ -7,19 +7,23 @@ use Rattle.std.proofs.lemmas.List.{at_drop_more, length-map, length-replicate, l
 use Rattle.std.proofs.lemmas.List.FromFn.{get_or-map-range_with_len, length-map-range_with_len}
 use Rattle.std.proofs.lemmas.Option.{get_or_from_slice_get, same_Some, slice_get_within}
 use Rattle.zs_num.specs.declared.entry.Entry.{Entry}
-use Rattle.access_log.specs.History.{AreStamped}
+use Rattle.access_log.specs.History.{AreStamped, of_core}
 use Rattle.access_log.specs.RecordedOrder.{no_stamps}
 use Rattle.access_record.specs.BankLogs.{BankLogState, entries_in}
 use Rattle.access_record.specs.Laws.{beyond_hits, kept_of}
 use Rattle.access_record.specs.RecordLogs.{RecordLogState}
 use Rattle.access_record.specs.RecordedAccesses.{AreInOrder, AreRecordsOf}
+use Rattle.access_record.specs.Turns.{AreTurnsOf, IfListed, in_turns, taken_of}
+use Rattle.access_record.specs.declared.turns.Turns.{Turns}
+use Rattle.access_record.specs.declared.turns.Turns.TheVariants.{CoreByCore, Listed}
 use Rattle.stats.specs.declared.counts.CoreCount.{CoreCount}
 use Rattle.stats.specs.Counted.{no_core_count}
 use Rattle.bound_core.specs.ShardWorld.{ShardWorld, begun_world, restarted}
+use Rattle.bound_core.proofs.Lists.{get_set}
 use Rattle.weave_chains.specs.Listed.{list_of, one_after_other}
 use Rattle.bound_records.specs.Counted.{count_of}
 use Rattle.bound_records.specs.CoreRuns.{first_port}
-use Rattle.bound_records.specs.Recorders.{AreKeptOf, AreStampedInTurn, IsKeptOf, RecordPortState, RecorderState, counts_in, emptied, emptied_at, entries_of, kept_lists, no_log, no_records}
+use Rattle.bound_records.specs.Recorders.{AreKeptOf, AreStampedInTurn, AreTakenIn, IsKeptOf, RecordPortState, RecorderState, counts_in, emptied, emptied_at, entries_of, kept_lists, no_log, no_records, taken_in}
 use Rattle.bound_records.proofs.Lists.{all_each, get_mapped, has_at, map_twice, mapped_all, mapped_at, set_cases}
 
 abbrev pub entries_by_log : List BankLogState → List (List Entry)
@@ -84,9 +88,6 @@ module _ (r : RecorderState) (banks : ℕ) (logs : List BankLogState) (records :
   pub same_banks : All (λ log. log.banks ≡ banks) logs
   same_banks = all_each (λ log. log.banks ≡ banks) logs (λ i log here. let f = found i log here in f.is.log_banks ∙ sym k.banks_are)
 
-  pub known_cores : All (λ log. log.core < length logs) logs
-  known_cores = all_each (λ log. log.core < length logs) logs (λ i log here. let f = found i log here in let within = slice_get_within logs i log here in let own = f.is.log_core in omega (arith, within, own))
-
   pub are_records : AreRecordsOf r.begin r.base logs records
   are_records = record {
     as_many = k.records_many;
@@ -104,14 +105,32 @@ module _ (r : RecorderState) (banks : ℕ) (logs : List BankLogState) (records :
   lists_many : length r.lists ≡ length logs
   lists_many = ap length lists ∙ length-map logs (λ log. log.entries)
 
-  pub few_logs : AreStampedInTurn r → length (entries_in logs) < 2 ^ 32
-  few_logs turn = subst (λ (es : List Entry). length es < 2 ^ 32) entries_are turn.few
+  stamped_in : (taken : List Entry) → AreStampedInTurn taken r → AreStamped banks (no_stamps banks (length logs)) taken
+  stamped_in taken turn =
+      subst (λ (n : ℕ). AreStamped banks (no_stamps banks n) taken) lists_many
+      (subst (λ (n : ℕ). AreStamped n (no_stamps n (length r.lists)) taken) (sym k.banks_are) turn.stamped)
 
-  pub stamped_logs : AreStampedInTurn r → AreStamped banks (no_stamps banks (length logs)) (entries_in logs)
-  stamped_logs turn =
-      subst (λ (es : List Entry). AreStamped banks (no_stamps banks (length logs)) es) entries_are
-      (subst (λ (n : ℕ). AreStamped banks (no_stamps banks n) (entries_of r)) lists_many
-      (subst (λ (n : ℕ). AreStamped n (no_stamps n (length r.lists)) (entries_of r)) (sym k.banks_are) turn.stamped))
+  log_there : (i : ℕ) (log : BankLogState) → slice_get logs i ≡ Some log → slice_get r.lists i ≡ Some log.entries
+  log_there i log here = ap (λ (ls : List (List Entry)). slice_get ls i) lists ∙ get_mapped (λ log. log.entries) logs i log here
+
+  pub taken_logs : (turns : Turns) → taken_of turns logs ≡ taken_in turns r
+  taken_logs CoreByCore = sym entries_are
+  taken_logs (Listed turns) = ap (in_turns turns.now) (sym lists)
+
+  pub few_logs : (turns : Turns) → AreTakenIn turns r → length (taken_of turns logs) < 2 ^ 32
+  few_logs turns t = subst (λ (es : List Entry). length es < 2 ^ 32) (sym (taken_logs turns)) t.stamped.few
+
+  pub stamped_logs : (turns : Turns) → AreTakenIn turns r → AreStamped banks (no_stamps banks (length logs)) (taken_of turns logs)
+  stamped_logs turns t = subst (AreStamped banks (no_stamps banks (length logs))) (sym (taken_logs turns)) (stamped_in (taken_in turns r) t.stamped)
+
+  pub are_turns : (turns : Turns) → AreTakenIn turns r → AreTurnsOf turns logs
+  are_turns turns t =
+      let same : taken_of turns logs ≡ taken_in turns r = taken_logs turns in
+      record {
+        known = subst (All (λ (e : Entry). e.core < length logs)) (sym same) (subst (λ (n : ℕ). All (λ (e : Entry). e.core < n) (taken_in turns r)) lists_many t.stamped.known);
+        own = λ i log here. ap (of_core i) same ∙ t.stamped.own i log.entries (log_there i log here);
+        named = subst (λ (es : List Entry). IfListed turns (λ cores. cores ≡ map (λ e. e.core) es)) (sym same) t.named;
+      }
 
   pub counts_are : counts ≡ counts_in r
   counts_are =
@@ -259,6 +278,38 @@ module _ (r : RecorderState) (banks : ℕ) (logs : List BankLogState) (records :
         log_is = log_eq log core (length r.world.shards) r.room [] is.log_core is.log_banks empty is.log_room;
         kept_is = kept_eq kept core r.begin r.base r.room [] is.kept_core is.kept_begin is.kept_base (is.kept_entries ∙ ap beyond_hits empty) is.kept_room;
       }
+
+  -- the core of this number makes an access
+  module _ (core : ℕ) (log : BankLogState) (kept : RecordLogState) (count : CoreCount) (here : slice_get logs core ≡ Some log) (there : slice_get records core ≡ Some kept) (counted : slice_get counts core ≡ Some count) where
+    pub its : IsKeptOf r core log kept count
+    its = k.each core log kept count here there counted
+
+    pub its_list : list_of r.lists core ≡ log.entries
+    its_list = ap (λ o. option_map_or (λ (list : List Entry). list) o []) (log_there core log here)
+
+    pub one_kept : (e : Entry) (world : ShardWorld) (log_after : BankLogState) (kept_after : RecordLogState) (count_after : CoreCount)
+        → log_after ≡ record log { entries = log.entries ++ e ∷ [] } → kept_after ≡ record kept { entries = beyond_hits (log.entries ++ e ∷ []) } → count_after ≡ count_of (log.entries ++ e ∷ [])
+        → length world.stamps ≡ length r.world.stamps → length world.shards ≡ length r.world.shards
+        → AreKeptOf (record { world = world; lists = entries_by_log (slice_set logs core log_after); begin = r.begin; base = r.base; room = r.room }) banks (slice_set logs core log_after) (slice_set records core kept_after) (slice_set counts core count_after)
+    one_kept e world log_after kept_after count_after log_is kept_is count_is stamps shards =
+        let entries : List Entry = log.entries ++ e ∷ [] in
+        let own : IsKeptOf r core log kept count = its in
+        put_back core log_after kept_after count_after entries world (slice_get_within logs core log here) stamps shards
+        (log_eq log_after core (length world.shards) r.room entries (ap (λ (l : BankLogState). l.core) log_is ∙ own.log_core) (ap (λ (l : BankLogState). l.banks) log_is ∙ (own.log_banks ∙ sym shards)) (ap (λ (l : BankLogState). l.entries) log_is)
+        (ap (λ (l : BankLogState). l.room) log_is ∙ own.log_room))
+        (kept_eq kept_after core r.begin r.base r.room (beyond_hits entries) (ap (λ (l : RecordLogState). l.core) kept_is ∙ own.kept_core) (ap (λ (l : RecordLogState). l.begin) kept_is ∙ own.kept_begin)
+        (ap (λ (l : RecordLogState). l.base) kept_is ∙ own.kept_base) (ap (λ (l : RecordLogState). l.entries) kept_is) (ap (λ (l : RecordLogState). l.room) kept_is ∙ own.kept_room))
+        count_is
+
+    pub lists_after : (e : Entry) (log_after : BankLogState) → log_after ≡ record log { entries = log.entries ++ e ∷ [] } → entries_by_log (slice_set logs core log_after) ≡ slice_set r.lists core (list_of r.lists core ++ e ∷ [])
+    lists_after e log_after is =
+        map-set (λ log. log.entries) logs core log_after
+        ∙ (ap (λ (ls : List (List Entry)). slice_set ls core log_after.entries) (sym lists)
+        ∙ ap (slice_set r.lists core) (ap (λ (l : BankLogState). l.entries) is ∙ ap (λ (es : List Entry). es ++ e ∷ []) (sym its_list)))
+
+    -- its list is longer by it
+    pub list_after : (list : List Entry) → list_of (slice_set r.lists core list) core ≡ list
+    list_after list = ap (λ o. option_map_or (λ (es : List Entry). es) o []) (get_set r.lists core log.entries list (log_there core log here))
 
 -- the port of the core that begins
 pub first_is : (r : RecorderState) (core : ℕ) (log : BankLogState) (kept : RecordLogState) → IsTaken r core log kept

@@ -1,7 +1,12 @@
 mod ByCore
+mod ByTurns
 mod Chained
 mod Counted
+mod InOrder
 mod Lists
 mod OneMore
+mod SameCores
+mod TakingTurns
 mod Turns
+mod TurnsBegin
 mod Whole

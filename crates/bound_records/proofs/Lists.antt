@@ -99,7 +99,7 @@ own_core core (e ∷ es) all =
     let first : e.core ≡ core = All-head (λ (x : Entry). x.core ≡ core) e es all in
     rw (eq-eqb e.core core first) (ap (λ (xs : List Entry). e ∷ xs) (own_core core es (All-tail (λ (x : Entry). x.core ≡ core) e es all)))
 
-other_core : (core other : ℕ) (es : List Entry) → (other ≡ core → ⊥) → All (λ e. e.core ≡ other) es → of_core core es ≡ []
+pub other_core : (core other : ℕ) (es : List Entry) → (other ≡ core → ⊥) → All (λ e. e.core ≡ other) es → of_core core es ≡ []
 other_core core other [] apart all = refl
 other_core core other (e ∷ es) apart all =
     let first : e.core ≡ other = All-head (λ (x : Entry). x.core ≡ other) e es all in

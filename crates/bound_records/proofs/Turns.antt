@@ -54,10 +54,13 @@ as_many_stamps w v core start request e given = ap (λ (answer : Entry × ShardW
 pub as_many_banks : (w v : ShardWorld) (core start : ℕ) (request : Request) (e : Entry) → (e, v) ≡ shards_serve w core start request → length v.shards ≡ length w.shards
 as_many_banks w v core start request e given = ap (λ (answer : Entry × ShardWorld). length answer.1.shards) given ∙ served_banks w core start request
 
+-- the entry is one of this core
+pub same_core : (w v : ShardWorld) (core start : ℕ) (request : Request) (e : Entry) → (e, v) ≡ shards_serve w core start request → e.core ≡ core
+same_core w v core start request e given = ap (λ (answer : Entry × ShardWorld). answer.0.core) given ∙ served_core w core start request
+
 pub answers : AnswersAsWorld GivesRecorded world shards_serve
 answers port port_after start request e g =
-    let core : e.core ≡ port.core = ap (λ (answer : Entry × ShardWorld). answer.0.core) g.given ∙ served_core port.world port.core start request in
-    g.given ∙ ap (λ (n : ℕ). shards_serve port.world n start request) (sym core)
+    g.given ∙ ap (λ (n : ℕ). shards_serve port.world n start request) (sym (same_core port.world port_after.world port.core start request e g.given))
 
 clock_after : (time : Entry → ℕ) (e : Entry) (c : TimedCore) → (core_after_access time e c).clock ≡ c.clock + time e
 unfolding core_after_access
@@ -132,7 +135,7 @@ line_from base addr from = omega (arith, from)
 line_to : (end addr width : ℕ) → addr + width ≤ end → addr / 64 ≤ end / 64
 line_to end addr width to = omega (arith, to)
 
-in_memory : (low base size : ℕ) (l1i : Bool) (request : Request) (e : Entry) → IsServable base size l1i request → e.request ≡ request → low ≤ e.start → IsNear low base size e
+pub in_memory : (low base size : ℕ) (l1i : Bool) (request : Request) (e : Entry) → IsServable base size l1i request → e.request ≡ request → low ≤ e.start → IsNear low base size e
 in_memory low base size l1i request e servable is from = record {
   from = from;
   first = subst (λ (r : Request). base / 64 ≤ line_of r) (sym is) (line_from base (addr_of request) servable.begins);
@@ -170,7 +173,7 @@ unfolding most_accesses
 none_past end c late idle unfetched =
     let past : nat_lt c.clock end ≡ false = search rules in rw past (none_left c.core idle unfetched)
 
-latest_idle : (end : ℕ) (c : TimedCore) → c.core.instruction ≡ None → c.core.is_fetched ≡ false → latest_clock end c ≤ max c.clock end + 2 ^ 30
+pub latest_idle : (end : ℕ) (c : TimedCore) → c.core.instruction ≡ None → c.core.is_fetched ≡ false → latest_clock end c ≤ max c.clock end + 2 ^ 30
 latest_idle end c idle unfetched =
     let none : most_left c.core ≡ 0 = none_left c.core idle unfetched in
     latest_small end c (omega (arith, none))
@@ -183,7 +186,7 @@ starts_soon end c entries idle unfetched starts few = λ k d below.
       | inr late ↦ absurd (omega (arith, below, few, none_past end c late idle unfetched))
     ]
 
-reached : (begin base size end : ℕ) (e : Entry) → IsNear begin base size e → e.start ≤ end + 2 ^ 30 → end ≤ begin + 10000 → size ≤ 2 ^ 28 → IsInReach begin base e
+pub reached : (begin base size end : ℕ) (e : Entry) → IsNear begin base size e → e.start ≤ end + 2 ^ 30 → end ≤ begin + 10000 → size ≤ 2 ^ 28 → IsInReach begin base e
 reached begin base size end e is soon short small = record {
   from = is.from;
   soon = omega (arith, soon, short);

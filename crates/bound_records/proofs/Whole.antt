@@ -1,31 +1,37 @@
 -- The bound phase of an interval, which the cores have run one after the other.
-use Rattle.std.proofs.Common.{◌≡◌, ℕ, zero, suc, ◌+◌, ◌*◌, ◌-◌, ◌^◌, ◌<◌, ◌≤◌, List, [], ◌∷◌, length, map, All, Some, Ok, get_or, refl, sym, ◌∙◌, ap, subst, arith}
+use Rattle.std.proofs.Common.{◌≡◌, ℕ, zero, suc, ◌+◌, ◌*◌, ◌-◌, ◌^◌, ◌<◌, ◌≤◌, List, [], ◌∷◌, length, map, All, Some, Ok, refl, sym, ◌∙◌, ap, subst, arith}
 use Rattle.std.specs.Prelude.{replicate, slice_get}
-use Rattle.std.proofs.lemmas.List.{get_or-map, length-map, length-replicate}
+use Rattle.std.proofs.lemmas.List.{length-map, length-replicate}
 use Rattle.std.proofs.lemmas.List.Elements.{All-map}
-use Rattle.std.proofs.lemmas.Option.{slice_get-get_or, slice_get_within}
+use Rattle.std.proofs.lemmas.Option.{slice_get_within}
 use Rattle.zs_num.specs.declared.entry.Entry.{Entry}
 use Rattle.elf_load.specs.MemoryImage.{MemoryImage}
 use Rattle.machine_desc.specs.declared.machine.Machine.{Machine}
 use Rattle.machine_desc.specs.Machine.{IsMachine}
 use Rattle.shard.specs.Served.{ShardState}
 use Rattle.access_log.specs.History.{AreStamped, of_core}
-use Rattle.access_log.specs.RecordedOrder.{no_stamps}
-use Rattle.bound_core.specs.History.{IsHistory, begun_over_shards}
+use Rattle.access_log.specs.Laws.{CoresDecideTheOrder, RecordedOrderKeepsTheStamps, StampsRise}
+use Rattle.access_log.specs.RecordedOrder.{no_stamps, recorded_order}
+use Rattle.access_record.specs.Records.{IsInReach}
+use Rattle.access_record.specs.Turns.{in_turns}
+use Rattle.bound_core.specs.History.{IsHistory, after_history, begun_over_shards}
 use Rattle.bound_core.specs.HistoryLaws.{PhasesAreHistories}
+use Rattle.bound_core.specs.Reaching.{Reaches}
 use Rattle.bound_core.specs.ReferenceMachine.{BoundState, bound_phase}
 use Rattle.bound_core.specs.ShardPort.{AreShardsOf, base_in, base_of, greatest, greatest_stamp, room_of, size_in, size_of}
 use Rattle.bound_core.specs.ShardWorld.{ShardWorld, begun_world, restarted, shards_serve}
-use Rattle.bound_core.specs.TimedCore.{TimedCore}
 use Rattle.bound_core.specs.NumberedCores.{NumberedCore, timed_of}
 use Rattle.bound_core.specs.Turn.{IsOver}
 use Rattle.bound_core.proofs.Reaching.{whole_phase}
 use Rattle.bound_core.proofs.Restarted.{no_last}
 use Rattle.bound_core.proofs.ShardPorts.{own_memory}
-use Rattle.bound_records.specs.CoreRuns.{HaveRecorded, access_time_of, phase_in}
+use Rattle.bound_records.specs.CoreRuns.{AreNumbered, HaveRecorded, access_time_of, phase_in}
 use Rattle.bound_records.specs.Intervals.{HaveRun, begun}
 use Rattle.bound_records.specs.Recorders.{IsRecorderFor, RecorderState, core_room, entries_of}
-use Rattle.bound_records.proofs.Lists.{all_empty, own_list}
+use Rattle.bound_records.specs.Turns.{phase_by}
+use Rattle.bound_records.proofs.InOrder.{HaveOwn, all_of_all, own_cores, own_recorded, same_cores, same_recorded, taken_again}
+use Rattle.bound_records.proofs.Lists.{all_empty, length_recorded, own_list}
+use Rattle.bound_records.proofs.SameCores.{all_timed}
 
 -- ---- an interval begins
 
@@ -38,13 +44,6 @@ none_there zero i es here = absurd (cc)
 none_there (suc n) zero es here = cc
 none_there (suc n) (suc i) es here = none_there n i es here
 
--- what holds of each core holds of all their states in time
-all_timed : (P : TimedCore → Type 0) (cores : List NumberedCore) → ((i : ℕ) (c : NumberedCore) → slice_get cores i ≡ Some c → P c.timed) → All P (timed_of cores)
-all_timed P cores each = λ k d below.
-    let core : NumberedCore = record { number = 0; timed = d; spare = 0 } in
-    let within : k < length cores = omega (arith, below, length-map cores (λ (c : NumberedCore). c.timed)) in
-    subst P (sym (get_or-map (λ (c : NumberedCore). c.timed) cores k core d within)) (each k (get_or cores k core) (slice_get-get_or cores k core within))
-
 more_cores : (n more room : ℕ) → n * room ≤ (n + more) * room
 more_cores n more room = omega arith
 
@@ -53,8 +52,48 @@ few_in_all cores room few =
     let all : cores + (256 - cores) ≡ 256 = omega (arith, few) in
     subst (λ (n : ℕ). cores * room ≤ n * room) all (more_cores cores (256 - cores) room)
 
-module _ (machine : Machine) (image : MemoryImage) (end begin : ℕ) (cores after : List NumberedCore) (before r s : RecorderState) (is : IsMachine machine) (recorder : IsRecorderFor machine before) (begins : r ≡ restarted_at begin before)
-    (count : length cores ≡ machine.cores) (some : 0 < length before.world.shards) (h : HaveRecorded machine image end machine.cores cores after r s) where
+-- All cores have come to the end of an interval, by these turns, which took the accesses in this order.
+pub record HaveEnded (machine : Machine) (image : MemoryImage) (end : ℕ) (turns : List ℕ) (taken : List Entry) (cores after : List NumberedCore) (r s : RecorderState) : Type 0 where
+  pub reaches : Reaches shards_serve (access_time_of machine) image end (phase_in cores r) turns (phase_by after s taken)
+  pub own : HaveOwn taken s.lists
+  pub starts : All (λ e. e.start ≤ 2 ^ 34) taken
+  pub reach : All (IsInReach s.begin s.base) taken
+  pub few : length taken ≤ machine.cores * core_room machine
+  pub count : length after ≡ length cores
+  pub numbered : AreNumbered after
+  pub over : All (IsOver end) (timed_of after)
+  pub clocks : All (λ c. c.clock ≤ 2 ^ 57) (timed_of after)
+  pub stamps : length s.world.stamps ≡ length r.world.stamps
+  pub banks : length s.world.shards ≡ length r.world.shards
+  pub lists : length s.lists ≡ length r.lists
+  pub begin_is : s.begin ≡ r.begin
+  pub base_is : s.base ≡ r.base
+  pub room_is : s.room ≡ r.room
+
+-- one core after the other
+pub ended_in_order : (machine : Machine) (image : MemoryImage) (end : ℕ) (cores after : List NumberedCore) (r s : RecorderState) → length cores ≡ machine.cores → HaveRecorded machine image end machine.cores cores after r s
+    → HaveEnded machine image end (map (λ e. e.core) (entries_of s)) (entries_of s) cores after r s
+ended_in_order machine image end cores after r s count h =
+    let many : length after ≡ machine.cores = h.count ∙ count in
+    record {
+      reaches = h.reaches;
+      own = λ core es here. own_list 0 core s.lists (λ i xs at. subst (λ (n : ℕ). All (λ (e : Entry). e.core ≡ n) xs) (let same : i ≡ 0 + i = omega arith in same) (h.own i xs at)) core es (let same : core ≡ 0 + core = omega arith in same) here;
+      starts = h.starts;
+      reach = h.reach;
+      few = h.few;
+      count = h.count;
+      numbered = h.numbered;
+      over = all_timed (IsOver end) after (λ i c here. h.over i c (let w = slice_get_within after i c here in omega (arith, w, many)) here);
+      clocks = all_timed (λ c. c.clock ≤ 2 ^ 57) after (λ i c here. h.clocks i c (let w = slice_get_within after i c here in omega (arith, w, many)) here);
+      stamps = h.stamps;
+      banks = h.banks;
+      lists = h.lists;
+      begin_is = h.begin_is;
+      base_is = h.base_is;
+      room_is = h.room_is;
+    }
+
+module _ (machine : Machine) (begin : ℕ) (cores : List NumberedCore) (before r : RecorderState) (recorder : IsRecorderFor machine before) (begins : r ≡ restarted_at begin before) (count : length cores ≡ machine.cores) where
   abbrev shards : List ShardState
   shards = map restarted before.world.shards
 
@@ -64,85 +103,103 @@ module _ (machine : Machine) (image : MemoryImage) (end begin : ℕ) (cores afte
   world_is : r.world ≡ begun_world (length (timed_of cores)) shards
   world_is = ap (λ (x : RecorderState). x.world) begins ∙ ap (λ (n : ℕ). begun_world n shards) (recorder.stamps ∙ sym many)
 
-  none : (i : ℕ) (es : List Entry) → slice_get r.lists i ≡ Some es → es ≡ []
-  none i es here = none_there (length before.lists) i es (ap (λ (x : RecorderState). slice_get x.lists i) (sym begins) ∙ here)
+  pub none_at_first : (i : ℕ) (es : List Entry) → slice_get r.lists i ≡ Some es → es ≡ []
+  none_at_first i es here = none_there (length before.lists) i es (ap (λ (x : RecorderState). slice_get x.lists i) (sym begins) ∙ here)
 
-  from_start : phase_in cores r ≡ begun_over_shards (timed_of cores) shards
+  pub from_start : phase_in cores r ≡ begun_over_shards (timed_of cores) shards
   from_start =
       ap (λ (w : ShardWorld). let x : BoundState ShardWorld = record { cores = timed_of cores; world = w; entries = entries_of r } in x) world_is
-      ∙ ap (λ (es : List Entry). let x : BoundState ShardWorld = record { cores = timed_of cores; world = begun_world (length (timed_of cores)) shards; entries = es } in x) (all_empty r.lists none)
+      ∙ ap (λ (es : List Entry). let x : BoundState ShardWorld = record { cores = timed_of cores; world = begun_world (length (timed_of cores)) shards; entries = es } in x) (all_empty r.lists none_at_first)
 
-  all_after : length after ≡ machine.cores
-  all_after = h.count ∙ count
+  module _ (image : MemoryImage) (end : ℕ) (turns : List ℕ) (taken : List Entry) (after : List NumberedCore) (s : RecorderState) (is : IsMachine machine) (some : 0 < length before.world.shards) (h : HaveEnded machine image end turns taken cores after r s) where
+    phase : bound_phase shards_serve (access_time_of machine) image end turns (begun_over_shards (timed_of cores) shards) ≡ Ok (phase_by after s taken)
+    phase =
+        ap (bound_phase shards_serve (access_time_of machine) image end turns) (sym from_start)
+        ∙ whole_phase shards_serve (access_time_of machine) image end (phase_in cores r) (phase_by after s taken) turns h.reaches h.over
 
-  all_over : All (IsOver end) (timed_of after)
-  all_over = all_timed (IsOver end) after (λ i c here. h.over i c (let w = slice_get_within after i c here in omega (arith, w, all_after)) here)
+    shards_many : length shards ≡ length before.world.shards
+    shards_many = length-map before.world.shards restarted
 
-  all_clocks : All (λ c. c.clock ≤ 2 ^ 57) (timed_of after)
-  all_clocks = all_timed (λ c. c.clock ≤ 2 ^ 57) after (λ i c here. h.clocks i c (let w = slice_get_within after i c here in omega (arith, w, all_after)) here)
+    banks : length s.world.shards ≡ length shards
+    banks = h.banks ∙ ap (λ (w : ShardWorld). length w.shards) world_is
 
-  abbrev turns : List ℕ
-  turns = map (λ e. e.core) (entries_of s)
+    lists_many : length s.lists ≡ length (timed_of cores)
+    lists_many = h.lists ∙ (ap (λ (x : RecorderState). length x.lists) begins ∙ (length-replicate (length before.lists) [] ∙ (recorder.lists ∙ sym many)))
 
-  phase : bound_phase shards_serve (access_time_of machine) image end turns (begun_over_shards (timed_of cores) shards) ≡ Ok (phase_in after s)
-  phase =
-      ap (bound_phase shards_serve (access_time_of machine) image end turns) (sym from_start)
-      ∙ whole_phase shards_serve (access_time_of machine) image end (phase_in cores r) (phase_in after s) turns h.reaches all_over
+    stamps_many : length s.world.stamps ≡ machine.cores
+    stamps_many = h.stamps ∙ (ap (λ (w : ShardWorld). length w.stamps) world_is ∙ (length-replicate (length (timed_of cores)) 0 ∙ many))
 
-  shards_many : length shards ≡ length before.world.shards
-  shards_many = length-map before.world.shards restarted
+    few : length taken < 2 ^ 32
+    few =
+        let most = h.few in
+        let all = few_in_all machine.cores (core_room machine) is.cores.1 in
+        let short = is.interval.1 in
+        omega (arith, most, all, short)
 
-  banks : length s.world.shards ≡ length shards
-  banks = h.banks ∙ ap (λ (w : ShardWorld). length w.shards) world_is
+    some_banks : 0 < length s.world.shards
+    some_banks = (let b = banks in let m = shards_many in omega (arith, b, some, m))
 
-  lists_many : length s.lists ≡ length (timed_of cores)
-  lists_many = h.lists ∙ (ap (λ (x : RecorderState). length x.lists) begins ∙ (length-replicate (length before.lists) [] ∙ (recorder.lists ∙ sym many)))
+    module _ (law : PhasesAreHistories (access_time_of machine) image end) where
+      found : IsHistory (access_time_of machine) image end (timed_of cores) shards taken × (turns ≡ map (λ e. e.core) taken) × (phase_by after s taken ≡ after_history (access_time_of machine) image end (timed_of cores) shards taken)
+      found =
+          law (timed_of cores) shards turns (phase_by after s taken) (let m = shards_many in omega (arith, some, m)) (All-map (λ (shard : ShardState). shard.last ≡ 0) restarted before.world.shards (λ k d below. refl)) phase
 
-  stamps_many : length s.world.stamps ≡ machine.cores
-  stamps_many = h.stamps ∙ (ap (λ (w : ShardWorld). length w.stamps) world_is ∙ (length-replicate (length (timed_of cores)) 0 ∙ many))
+      known_lists : All (λ e. e.core < length s.lists) taken
+      known_lists = subst (λ (n : ℕ). All (λ (e : Entry). e.core < n) taken) (sym lists_many) found.0.known
 
-  few : length (entries_of s) < 2 ^ 32
-  few =
-      let most = h.few in
-      let all = few_in_all machine.cores (core_room machine) is.cores.1 in
-      let short = is.interval.1 in
-      omega (arith, most, all, short)
+      stamped : AreStamped (length s.world.shards) (no_stamps (length s.world.shards) (length s.lists)) taken
+      stamped =
+          subst (λ (n : ℕ). AreStamped n (no_stamps n (length s.lists)) taken) (sym banks)
+          (subst (λ (n : ℕ). AreStamped (length shards) (no_stamps (length shards) n) taken) (sym lists_many) found.0.stamped)
 
-  module _ (law : PhasesAreHistories (access_time_of machine) image end) where
-    history : IsHistory (access_time_of machine) image end (timed_of cores) shards (entries_of s)
-    history =
-        (law (timed_of cores) shards turns (phase_in after s) (omega (arith, some, shards_many)) (All-map (λ (shard : ShardState). shard.last ≡ 0) restarted before.world.shards (λ k d below. refl)) phase).0
+      all_of : (P : Entry → Type 0) → All P taken → All P (entries_of s)
+      all_of P all = all_of_all taken s.lists h.own known_lists P all
 
-    stamped : AreStamped (length s.world.shards) (no_stamps (length s.world.shards) (length s.lists)) (entries_of s)
-    stamped =
-        subst (λ (n : ℕ). AreStamped n (no_stamps n (length s.lists)) (entries_of s)) (sym banks)
-        (subst (λ (n : ℕ). AreStamped (length shards) (no_stamps (length shards) n) (entries_of s)) (sym lists_many) history.stamped)
+      module _ (rise : StampsRise) (decide : CoresDecideTheOrder) (keep : RecordedOrderKeepsTheStamps) where
+        in_order : recorded_order (entries_of s) ≡ recorded_order taken
+        in_order = same_recorded taken s.lists h.own known_lists (length s.world.shards) some_banks stamped rise decide
 
-    own : (core : ℕ) (es : List Entry) → slice_get s.lists core ≡ Some es → of_core core (entries_of s) ≡ es
-    own core es here = own_list 0 core s.lists (λ i xs at. subst (λ (n : ℕ). All (λ (e : Entry). e.core ≡ n) xs) (let same : i ≡ 0 + i = omega arith in same) (h.own i xs at)) core es (let same : core ≡ 0 + core = omega arith in same) here
+        as_many : length (entries_of s) ≡ length taken
+        as_many = sym (length_recorded (entries_of s)) ∙ (ap length in_order ∙ length_recorded taken)
 
-    pub have_run : begin ≡ end - machine.interval → HaveRun machine image end cores after before s
-    have_run begin_is = record {
-      phase = phase;
-      own = own;
-      known = subst (λ (n : ℕ). All (λ (e : Entry). e.core < n) (entries_of s)) many history.known;
-      starts = h.starts;
-      few = h.few;
-      reach = h.reach;
-      in_turn = record { some = omega (arith, banks, some, shards_many); few = few; stamped = stamped };
-      count = all_after;
-      numbered = h.numbered;
-      over = all_over;
-      clocks = all_clocks;
-      recorder = record {
-        stamps = stamps_many;
-        lists = lists_many ∙ many;
-        room = subst (λ (n : ℕ). core_room machine ≤ n) (sym (h.room_is ∙ ap (λ (x : RecorderState). x.room) begins)) recorder.room;
-        base = h.base_is ∙ (ap (λ (x : RecorderState). x.base) begins ∙ recorder.base);
-      };
-      begins = h.begin_is ∙ (ap (λ (x : RecorderState). x.begin) begins ∙ begin_is);
-      banks = banks ∙ shards_many;
-    }
+        pub in_recorded : (core : ℕ) → of_core core (recorded_order (entries_of s)) ≡ of_core core taken
+        in_recorded = own_recorded taken s.lists h.own known_lists (length s.world.shards) some_banks stamped rise decide keep
+
+        pub have_run : begin ≡ end - machine.interval → HaveRun machine image end turns taken cores after before s
+        have_run begin_is = record {
+          phase = phase;
+          turns_are = found.1;
+          in_turn = record { some = some_banks; few = few; known = known_lists; own = h.own; stamped = stamped };
+          in_order = sym in_order;
+          own = λ core es here. in_recorded core ∙ h.own core es here;
+          known = subst (λ (n : ℕ). All (λ (e : Entry). e.core < n) (entries_of s)) (lists_many ∙ many) (all_of (λ (e : Entry). e.core < length s.lists) known_lists);
+          starts = all_of (λ (e : Entry). e.start ≤ 2 ^ 34) h.starts;
+          few = (let f = h.few in let m = as_many in omega (arith, f, m));
+          reach = all_of (IsInReach s.begin s.base) h.reach;
+          count = h.count ∙ count;
+          numbered = h.numbered;
+          over = h.over;
+          clocks = h.clocks;
+          recorder = record {
+            stamps = stamps_many;
+            lists = lists_many ∙ many;
+            room = subst (λ (n : ℕ). core_room machine ≤ n) (sym (h.room_is ∙ ap (λ (x : RecorderState). x.room) begins)) recorder.room;
+            base = h.base_is ∙ (ap (λ (x : RecorderState). x.base) begins ∙ recorder.base);
+          };
+          begins = h.begin_is ∙ (ap (λ (x : RecorderState). x.begin) begins ∙ begin_is);
+          banks = banks ∙ shards_many;
+        }
+
+        -- the order of the turns is that in which their list takes the accesses
+        pub as_listed : in_turns turns s.lists ≡ taken
+        as_listed = ap (λ (ns : List ℕ). in_turns ns s.lists) found.1 ∙ taken_again taken s.lists h.own known_lists
+
+        pub own_of : (core : ℕ) (es : List Entry) → slice_get s.lists core ≡ Some es → All (λ e. e.core ≡ core) es
+        own_of = own_cores taken s.lists h.own known_lists
+
+        -- recorded order leaves each core's accesses in their order
+        pub same_in_order : (core : ℕ) → of_core core (recorded_order (entries_of s)) ≡ of_core core (entries_of s)
+        same_in_order core = in_recorded core ∙ sym (same_cores taken s.lists h.own known_lists core)
 
 -- ---- what the interval begins with
 

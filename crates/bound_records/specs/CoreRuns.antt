@@ -16,7 +16,6 @@ use Rattle.bound_core.specs.TimedCore.{TimedCore}
 use Rattle.bound_core.specs.NumberedCores.{NumberedCore, timed_of}
 use Rattle.bound_core.specs.IntervalBounds.{latest_clock, most_accesses}
 use Rattle.bound_core.specs.Turn.{IsOver, RunsToEnd}
-use Rattle.bound_records.specs.Port.{LoggedPortState}
 use Rattle.bound_records.specs.Recorders.{GivesRecorded, RecorderState, RecordPortState, core_room, entries_of}
 
 -- the expansion of this machine
@@ -42,11 +41,7 @@ pub record CanRunInterval (machine : Machine) (end base size : ℕ) (l1i : Bool)
   pub size_is : c.core.memory.size ≡ size
   pub fetches : IsTrue c.core.fetching → IsTrue l1i
 
--- a bound phase on its way, with these cores and this port
-abbrev pub phase_of : List NumberedCore → LoggedPortState → BoundState ShardWorld
-phase_of cores port = record { cores = timed_of cores; world = port.world; entries = port.entries }
-
--- and where one worker has recorded it
+-- a bound phase on its way, with these cores, where one worker has recorded it, one core after the other
 abbrev pub phase_in : List NumberedCore → RecorderState → BoundState ShardWorld
 phase_in cores r = record { cores = timed_of cores; world = r.world; entries = entries_of r }
 

@@ -18,29 +18,39 @@ use Rattle.bound_core.specs.Turn.{IsOver}
 use Rattle.weave_chains.specs.Listed.{one_after_other}
 use Rattle.weave_chains.specs.Rounds.{AreChained}
 use Rattle.weave_chains.specs.Woven.{AreOrdered}
-use Rattle.bound_records.specs.CoreRuns.{AreNumbered, CanRunInterval, access_time_of, phase_in}
+use Rattle.bound_records.specs.CoreRuns.{AreNumbered, CanRunInterval, access_time_of}
+use Rattle.bound_records.specs.declared.turns_fail.TurnsFail.{TurnsFail}
+use Rattle.bound_records.specs.declared.turns_fail.TurnsFail.TheVariants as turns_fail
 use Rattle.bound_records.specs.Recorders.{AreStampedInTurn, IsRecorderFor, RecorderState, core_room, entries_of, kept_lists, recorded_kept}
 
 -- caches and memory before the first access of an interval
 abbrev pub begun : Machine → RecorderState → ShardWorld
 begun machine r = begun_world machine.cores (map restarted r.world.shards)
 
+-- of the place that is not legal
+abbrev pub IfIllegalTurn : TurnsFail → ((place : ℕ) → Type 0) → Type 0
+IfIllegalTurn (turns_fail.Illegal place) P = P place
+IfIllegalTurn turns_fail.NoMemory P = Unit {0}
+
 -- each core can run the interval that ends then
 abbrev pub CanAllRun : Machine → (end : ℕ) → List NumberedCore → RecorderState → Type 0
 CanAllRun machine end cores r = (i : ℕ) (c : NumberedCore) → slice_get cores i ≡ Some c → CanRunInterval machine end (base_of (begun machine r)) (size_of (begun machine r)) (l1i_of (begun machine r)) c.timed
 
--- All cores have run to the end of the interval, one after the other.
-pub record HaveRun (machine : Machine) (image : MemoryImage) (end : ℕ) (cores after : List NumberedCore) (r r_after : RecorderState) : Type 0 where
-  -- it is the bound phase of the interval, by turns in the order of the accesses
-  pub phase : bound_phase shards_serve (access_time_of machine) image end (map (λ e. e.core) (entries_of r_after)) (begun_over_shards (timed_of cores) (map restarted r.world.shards)) ≡ Ok (phase_in after r_after)
-  -- the accesses of each core are those of its number
-  pub own : (core : ℕ) (entries : List Entry) → slice_get r_after.lists core ≡ Some entries → of_core core (entries_of r_after) ≡ entries
+-- All cores have run to the end of the interval, by these turns, which took the accesses in this order.
+pub record HaveRun (machine : Machine) (image : MemoryImage) (end : ℕ) (turns : List ℕ) (taken : List Entry) (cores after : List NumberedCore) (r r_after : RecorderState) : Type 0 where
+  -- it is the bound phase of the interval
+  pub phase : bound_phase shards_serve (access_time_of machine) image end turns (begun_over_shards (timed_of cores) (map restarted r.world.shards)) ≡ Ok (record { cores = timed_of after; world = r_after.world; entries = taken })
+  pub turns_are : turns ≡ map (λ e. e.core) taken
+  pub in_turn : AreStampedInTurn taken r_after
+  -- in recorded order they are those of the cores, one after the other
+  pub in_order : recorded_order taken ≡ recorded_order (entries_of r_after)
+  -- each core has its own there, in its order
+  pub own : (core : ℕ) (entries : List Entry) → slice_get r_after.lists core ≡ Some entries → of_core core (recorded_order (entries_of r_after)) ≡ entries
   pub known : All (λ e. e.core < machine.cores) (entries_of r_after)
   pub starts : All (λ e. e.start ≤ 2 ^ 34) (entries_of r_after)
   pub few : length (entries_of r_after) ≤ machine.cores * core_room machine
   -- their records give back their events
   pub reach : All (IsInReach r_after.begin r_after.base) (entries_of r_after)
-  pub in_turn : AreStampedInTurn r_after
   pub count : length after ≡ machine.cores
   pub numbered : AreNumbered after
   pub over : All (IsOver end) (timed_of after)

@@ -1,5 +1,5 @@
 pub mod CoreRuns
 pub mod Counted
 pub mod Intervals
-pub mod Port
 pub mod Recorders
+pub mod Turns

@@ -1,20 +1,23 @@
 -- What is kept of the accesses of an interval, core by core.
-use Rattle.std.specs.Prelude.{◌≡◌, ℕ, ◌+◌, ◌<◌, ◌≤◌, ◌^◌, List, [], ◌∷◌, ◌++◌, length, map, slice_get, Some}
+use Rattle.std.specs.Prelude.{◌≡◌, ℕ, ◌+◌, ◌<◌, ◌≤◌, ◌^◌, List, [], ◌∷◌, ◌++◌, All, length, map, slice_get, slice_set, Some}
 use Rattle.zs_num.specs.declared.entry.Entry.{Entry}
 use Rattle.zs_num.specs.declared.request.Request.{Request}
 use Rattle.zs_num.specs.Servable.{IsServable}
 use Rattle.machine_desc.specs.declared.machine.Machine.{Machine}
-use Rattle.access_log.specs.History.{AreStamped}
+use Rattle.access_log.specs.History.{AreStamped, of_core}
 use Rattle.access_log.specs.RecordedOrder.{no_stamps, recorded_order}
 use Rattle.access_record.specs.BankLogs.{BankLogState}
 use Rattle.access_record.specs.Laws.{beyond_hits, kept_of}
 use Rattle.access_record.specs.RecordLogs.{RecordLogState}
+use Rattle.access_record.specs.Turns.{IfListed, in_turns}
+use Rattle.access_record.specs.declared.turns.Turns.{Turns}
+use Rattle.access_record.specs.declared.turns.Turns.TheVariants.{CoreByCore, Listed}
 use Rattle.bound_core.specs.ShardPort.{base_of, l1i_of, room_of, size_of}
 use Rattle.bound_core.specs.ShardWorld.{ShardWorld, shards_serve}
 use Rattle.bound_core.specs.TimedCore.{beside_cycles}
 use Rattle.stats.specs.declared.counts.CoreCount.{CoreCount}
 use Rattle.stats.specs.Counted.{no_core_count}
-use Rattle.weave_chains.specs.Listed.{one_after_other}
+use Rattle.weave_chains.specs.Listed.{list_of, one_after_other}
 use Rattle.bound_records.specs.Counted.{count_of}
 
 -- how many accesses a core has in an interval at most
@@ -35,7 +38,7 @@ pub record RecorderState : Type 0 where
   -- for how many accesses of each core there is memory
   pub room : ℕ
 
--- the accesses of all cores, one core after the other: in this order the turns were taken
+-- the accesses of all cores, one core after the other
 abbrev pub entries_of : RecorderState → List Entry
 entries_of r = one_after_other r.lists
 
@@ -58,11 +61,24 @@ pub record IsRecorderFor (machine : Machine) (r : RecorderState) : Type 0 where
   pub room : core_room machine ≤ r.room
   pub base : r.base ≡ machine.memory.base
 
--- the stamps of its accesses are those of the order of the turns, from 0 on, so the recorded order can be told
-pub record AreStampedInTurn (r : RecorderState) : Type 0 where
+-- In this order the turns took its accesses: each core has its own, in its order, and the stamps are those of the order,
+-- from 0 on, so the recorded order can be told.
+pub record AreStampedInTurn (taken : List Entry) (r : RecorderState) : Type 0 where
   pub some : 0 < length r.world.shards
-  pub few : length (entries_of r) < 2 ^ 32
-  pub stamped : AreStamped (length r.world.shards) (no_stamps (length r.world.shards) (length r.lists)) (entries_of r)
+  pub few : length taken < 2 ^ 32
+  pub known : All (λ e. e.core < length r.lists) taken
+  pub own : (core : ℕ) (entries : List Entry) → slice_get r.lists core ≡ Some entries → of_core core taken ≡ entries
+  pub stamped : AreStamped (length r.world.shards) (no_stamps (length r.world.shards) (length r.lists)) taken
+
+-- the accesses in the order of turns
+abbrev pub taken_in : Turns → RecorderState → List Entry
+taken_in CoreByCore r = entries_of r
+taken_in (Listed turns) r = in_turns turns.now r.lists
+
+-- the turns took them in this order
+pub record AreTakenIn (turns : Turns) (r : RecorderState) : Type 0 where
+  pub stamped : AreStampedInTurn (taken_in turns r) r
+  pub named : IfListed turns (λ cores. cores ≡ map (λ e. e.core) (taken_in turns r))
 
 -- ---- what stands for it
 
@@ -146,3 +162,27 @@ pub record GivesRecorded (p : RecordPortState) (start : ℕ) (request : Request)
   pub base_stays : base_of q.world ≡ base_of p.world
   pub size_stays : size_of q.world ≡ size_of p.world
   pub room : room_of p.world ≤ room_of q.world + 1
+
+-- ---- the port of turns
+
+-- what is kept of all cores, and the core whose turn it is
+pub record TurnPortState : Type 0 where
+  pub recorder : RecorderState
+  pub core : ℕ
+
+-- with an access more of a core, after which caches and memory are these
+abbrev pub with_access_of : RecorderState → (core : ℕ) → Entry → ShardWorld → RecorderState
+with_access_of r core e world = record r { world = world; lists = slice_set r.lists core (list_of r.lists core ++ e ∷ []) }
+
+-- What comes of a request: the shard of its line serves it, the entry is kept as the core's last, and nothing else
+-- changes. Only what the memory can be asked is asked.
+pub record GivesTurn (p : TurnPortState) (start : ℕ) (request : Request) (e : Entry) (q : TurnPortState) : Type 0 where
+  pub given : (e, q.recorder.world) ≡ shards_serve p.recorder.world p.core start request
+  pub kept : q ≡ record p { recorder = with_access_of p.recorder p.core e q.recorder.world }
+  pub asked : IsServable (base_of p.recorder.world) (size_of p.recorder.world) (l1i_of p.recorder.world) request
+  pub start_is : e.start ≡ start
+  pub request_is : e.request ≡ request
+  pub base_stays : base_of q.recorder.world ≡ base_of p.recorder.world
+  pub size_stays : size_of q.recorder.world ≡ size_of p.recorder.world
+  pub l1i_stays : l1i_of q.recorder.world ≡ l1i_of p.recorder.world
+  pub room : room_of p.recorder.world ≤ room_of q.recorder.world + 1

@@ -4,10 +4,14 @@
 
 mod accesses;
 mod gated_port;
+mod listed_turns;
 mod own_program;
 mod record_port;
 mod recorder;
 mod running;
+mod turn_port;
+mod turns_fail;
 
 pub use own_program::OwnProgram;
 pub use recorder::Recorder;
+pub use turns_fail::TurnsFail;

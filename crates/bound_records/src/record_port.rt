@@ -84,33 +84,37 @@ impl Port for RecordPort {
     #[inline(always)]
     fn access(&mut self, start: Cycle, request: Request) -> Entry {
         let entry = self.port.access(start, request);
-        self.record.put(&entry);
+        let record = &mut self.record;
+        keep(
+            &mut record.log,
+            &mut record.records,
+            &mut record.count,
+            &entry,
+        );
         entry
     }
 }
 
-impl CoreRecord {
-    /// Keeps an access.
-    #[inline(always)]
-    fn put(&mut self, entry: &Entry)
-        requires core { entry.now.core ≡ self.old.log.core }
-        requires some { 0 < self.old.log.banks }
-        requires room { length self.old.log.entries < self.old.log.room }
-        requires records { self.old.records.core ≡ self.old.log.core }
-        requires kept { self.old.records.entries ≡ beyond_hits self.old.log.entries }
-        requires records_room { self.old.records.room ≡ self.old.log.room }
-        requires count { self.old.count ≡ count_of self.old.log.entries }
-        ensures log { self.new.log ≡ record self.old.log { entries = self.old.log.entries ++ entry.now ∷ [] } }
-        ensures records { self.new.records ≡ record self.old.records { entries = beyond_hits (self.old.log.entries ++ entry.now ∷ []) } }
-        ensures count { self.new.count ≡ count_of (self.old.log.entries ++ entry.now ∷ []) }
-    {
-        let banks = u64::from(self.log.banks());
-        let bank = remainder(entry.request.line(), banks) as u16;
-        self.log.put(bank, entry);
-        count_access(&mut self.count, entry);
-        if makes_events(entry.outcome) {
-            self.records.put(entry);
-        }
+/// Keeps an access of a core.
+#[inline(always)]
+pub(crate) fn keep(log: &mut BankLog, records: &mut RecordLog, count: &mut CoreCount, entry: &Entry)
+    requires core { entry.now.core ≡ log.old.core }
+    requires some { 0 < log.old.banks }
+    requires room { length log.old.entries < log.old.room }
+    requires records { records.old.core ≡ log.old.core }
+    requires kept { records.old.entries ≡ beyond_hits log.old.entries }
+    requires records_room { records.old.room ≡ log.old.room }
+    requires count { count.old ≡ count_of log.old.entries }
+    ensures log { log.new ≡ record log.old { entries = log.old.entries ++ entry.now ∷ [] } }
+    ensures records { records.new ≡ record records.old { entries = beyond_hits (log.old.entries ++ entry.now ∷ []) } }
+    ensures count { count.new ≡ count_of (log.old.entries ++ entry.now ∷ []) }
+{
+    let banks = u64::from(log.banks());
+    let bank = remainder(entry.request.line(), banks) as u16;
+    log.put(bank, entry);
+    count_access(count, entry);
+    if makes_events(entry.outcome) {
+        records.put(entry);
     }
 }
 

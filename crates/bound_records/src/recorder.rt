@@ -1,18 +1,26 @@
 //! Caches and memory that one worker has, and what it keeps of the accesses of an interval.
-ghost use Rattle.std.specs.Prelude.{◌≡◌, ◌+◌, ◌*◌, ◌<◌, ◌≤◌, ◌^◌, [], length, map, replicate, IfOk};
+ghost use Rattle.std.specs.Prelude.{◌≡◌, ◌+◌, ◌*◌, ◌<◌, ◌≤◌, ◌^◌, ℕ, [], All, Err, Some, length, map, replicate, slice_get, IfErr, IfOk, OnOk};
 ghost use Rattle.std.specs.List.{range_with_len};
 ghost use Rattle.machine_desc.specs.Machine.{IsMachine};
 ghost use Rattle.shard.specs.StandsFor.{new_shards};
 ghost use Rattle.access_log.specs.RecordedOrder.{recorded_order};
 ghost use Rattle.access_record.specs.BankLogs.{entries_in};
+ghost use Rattle.access_record.specs.Turns.{in_turns};
+ghost use Rattle.bound_core.specs.History.{begun_over_shards};
+ghost use Rattle.bound_core.specs.NumberedCores.{NumberedCore, timed_of};
+ghost use Rattle.bound_core.specs.ReferenceMachine.{bound_phase};
 ghost use Rattle.bound_core.specs.ShardPort.{AreShardsOf};
-ghost use Rattle.bound_core.specs.ShardWorld.{begun_world, restarted};
-ghost use Rattle.bound_records.specs.CoreRuns.{AreNumbered, IsNetOf};
-ghost use Rattle.bound_records.specs.Intervals.{AreKept, CanAllRun, HaveRun};
-ghost use Rattle.bound_records.specs.Recorders.{AreStampedInTurn, IsRecorderFor, counts_in, emptied, emptied_at, entries_of, no_log, no_records, recorded_kept, uncounted};
+ghost use Rattle.bound_core.specs.ShardWorld.{begun_world, restarted, shards_serve};
+ghost use Rattle.bound_core.specs.TimedCore.{beside_cycles};
+ghost use Rattle.bound_records.specs.CoreRuns.{AreNumbered, IsNetOf, access_time_of};
+ghost use Rattle.bound_records.specs.Intervals.{AreKept, CanAllRun, HaveRun, IfIllegalTurn};
+ghost use Rattle.bound_records.specs.Recorders.{AreStampedInTurn, AreTakenIn, IsRecorderFor, counts_in, emptied, emptied_at, entries_of, no_log, no_records, recorded_kept, uncounted};
 
+use crate::TurnsFail;
+use crate::listed_turns::take_turns;
 use crate::running::run_cores;
-use access_record::{BankLog, RecordLog, recorded_accesses, recorded_cores};
+use crate::turn_port::TurnPort;
+use access_record::{BankLog, RecordLog, Turns, recorded_accesses, recorded_cores};
 use bound_core::{BESIDE_CYCLES, BoundCore, PartsPort};
 use elf_load::Image;
 use machine_desc::Machine;
@@ -110,10 +118,12 @@ impl Recorder {
         requires count { length cores.old ≡ machine.now.cores }
         requires ready { CanAllRun machine.now end cores.old self }
         requires numbered { AreNumbered cores.old }
-        ensures run { IfOk result (HaveRun machine.now program.now end cores.old cores.new self) }
+        ensures run { IfOk result (λ r. HaveRun machine.now program.now end (map (λ e. e.core) (entries_of r)) (entries_of r) cores.old cores.new self r) }
         ensures kept { IfOk result (AreKept machine.now) }
     {
         bound_core::laws::phases_are_histories();
+        access_log::laws::stamps_rise();
+        access_log::laws::cores_decide_the_order();
         access_log::laws::recorded_order_keeps_the_stamps();
         access_record::laws::records_stand_for_accesses();
         access_record::laws::records_keep_each_access();
@@ -124,6 +134,52 @@ impl Recorder {
         self.restart(end.saturating_sub(machine.interval));
         let recorder = run_cores(alloc, machine, program, net, end, gate, cores, self)?;
         Ok(recorder)
+    }
+
+    /// Runs the cores to the end of an interval, by turns in the order of a list, which names the
+    /// core of each. It then has the accesses of this interval, and of no other. Where the list is
+    /// not legal it answers the first place that is not.
+    pub fn run_under(
+        mut self,
+        machine: &Machine,
+        program: &DecodedProgram<'_>,
+        net: &Net,
+        end: Cycle,
+        turns: &[u16],
+        cores: &mut [BoundCore],
+    ) -> Result<Self, TurnsFail>
+        requires machine { IsMachine machine.now }
+        requires net { IsNetOf machine.now net.now }
+        requires end { end ≤ 10 * 2 ^ 30 }
+        requires known { All (λ number. number < machine.now.cores) turns.now }
+        requires few { length turns.now < 2 ^ 32 }
+        requires recorder { IsRecorderFor machine.now self }
+        requires shards { AreShardsOf machine.now.cores self.world.shards machine.now.memory.base machine.now.memory.size }
+        requires banks { length self.world.shards ≡ machine.now.l2.banks }
+        requires count { length cores.old ≡ machine.now.cores }
+        requires ready { CanAllRun machine.now end cores.old self }
+        requires numbered { AreNumbered cores.old }
+        ensures run { IfOk result (λ r. HaveRun machine.now program.now end turns.now (in_turns turns.now r.lists) cores.old cores.new self r) }
+        ensures kept { IfOk result (AreKept machine.now) }
+        ensures illegal { IfErr result (λ fail. IfIllegalTurn fail (λ place. bound_phase shards_serve (access_time_of machine.now) program.now end turns.now (begun_over_shards (timed_of cores.old) (map restarted self.world.shards)) ≡ Err place)) }
+    {
+        bound_core::laws::phases_are_histories();
+        access_log::laws::stamps_rise();
+        access_log::laws::cores_decide_the_order();
+        access_log::laws::recorded_order_keeps_the_stamps();
+        access_record::laws::records_stand_for_accesses();
+        access_record::laws::records_keep_each_access();
+        access_record::laws::records_keep_the_events();
+        noc_mesh::laws::net_accesses_have_few_events();
+        noc_mesh::laws::net_accesses_beyond_hits_have_events();
+        noc_mesh::laws::net_events_are_in_a_row();
+        reserve_all(machine, cores)?;
+        self.restart(end.saturating_sub(machine.interval));
+        let mut port = TurnPort::new(self);
+        match take_turns(program, net, end, turns, cores, &mut port) {
+            Ok(()) => Ok(port.finish()),
+            Err(place) => Err(TurnsFail::Illegal { place }),
+        }
     }
 
     /// How many accesses the interval has.
@@ -141,24 +197,28 @@ impl Recorder {
         &self.counts
     }
 
-    /// The cores of the interval's accesses, in recorded order.
+    /// The cores of the interval's accesses, in recorded order. The cores have run one after the
+    /// other.
     pub fn recorded_cores(&self, alloc: Global) -> Result<Vec<u16>, NoMemory>
-        requires { AreStampedInTurn self.now }
+        requires { AreStampedInTurn (entries_of self.now) self.now }
         ensures { IfOk result (λ list. list.items ≡ map (λ e. e.core) (recorded_order (entries_of self.now))) }
     {
-        let cores = self.logs.len() as u16;
-        recorded_cores(alloc, &self.logs, self.banks, cores)
+        recorded_cores(alloc, &self.logs, Turns::CoreByCore, self.banks)
     }
 
-    /// The accesses that make events, in recorded order, as their records give them back.
-    pub fn recorded_accesses(&self, alloc: Global) -> Result<Vec<Entry>, NoMemory>
-        requires { AreStampedInTurn self.now }
+    /// The accesses that make events, in recorded order, as their records give them back. These are
+    /// the turns by which they were made.
+    pub fn recorded_accesses(&self, alloc: Global, turns: Turns<'_>) -> Result<Vec<Entry>, NoMemory>
+        requires { AreTakenIn turns self.now }
         ensures { IfOk result (λ list. list.items ≡ recorded_kept self.now) }
     {
+        access_log::laws::stamps_rise();
+        access_log::laws::cores_decide_the_order();
         recorded_accesses(
             alloc,
             &self.logs,
             &self.records,
+            turns,
             self.banks,
             self.begin,
             self.base,
@@ -203,6 +263,19 @@ fn empty_records(alloc: Global, machine: &Machine, room: u32) -> Result<Vec<Reco
         records.push(RecordLog::with_room(alloc, core, base, room)?)?;
     }
     Ok(records)
+}
+
+/// Gives each core room on its console for what it can write in an interval.
+fn reserve_all(machine: &Machine, cores: &mut [BoundCore]) -> Result<(), NoMemory>
+    requires { IsMachine machine.now }
+    ensures timed { OnOk result (timed_of cores.new ≡ timed_of cores.old) }
+    ensures numbered { OnOk result (AreNumbered cores.old → AreNumbered cores.new) }
+    ensures spare { OnOk result ((i : ℕ) (c : NumberedCore) → slice_get cores.new i ≡ Some c → machine.now.interval + beside_cycles ≤ c.spare) }
+{
+    for number in 0..cores.len() {
+        cores[number].reserve(machine.interval)?;
+    }
+    Ok(())
 }
 
 /// How many accesses all logs have.

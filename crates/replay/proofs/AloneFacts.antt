@@ -3,7 +3,6 @@ use Rattle.std.proofs.Common.{◌≡◌, ℕ, ◌*◌, ◌^◌, ◌<◌, ◌≤�
 use Rattle.zs_num.specs.declared.entry.Entry.{Entry}
 use Rattle.elf_load.specs.MemoryImage.{MemoryImage}
 use Rattle.machine_desc.specs.declared.machine.Machine.{Machine}
-use Rattle.machine_desc.specs.Components.{component_count}
 use Rattle.machine_desc.specs.Machine.{IsMachine}
 use Rattle.component.specs.declared.comp.Comp.{Comp}
 use Rattle.component.specs.ComponentStep.{comp_step, free_of}
@@ -15,27 +14,27 @@ use Rattle.stats.specs.CountsFit.{CountsFit}
 use Rattle.stats.specs.Added.{added}
 use Rattle.stats.specs.Laws.{CountersAreSums, SumsFit, WasRun}
 use Rattle.bound_phase.proofs.RecordedOrder.{all_recorded, length_recorded}
-use Rattle.bound_records.specs.CoreRuns.{IsNetOf}
+use Rattle.bound_records.specs.CoreRuns.{AreNumbered, IsNetOf}
 use Rattle.bound_records.specs.Recorders.{RecorderState, entries_of}
 use Rattle.replay.specs.declared.memory.Memory.TheVariants as memory
 use Rattle.replay.specs.declared.simulation.Simulation.{Simulation}
 use Rattle.replay.specs.IntervalWeave.{IntervalsAreWoven, IsSoundWeave}
 use Rattle.replay.specs.Records.{FitsIn, IsRecorded, accesses_in, recorded_interval}
-use Rattle.replay.specs.ReferenceRun.{RunState, access_room}
-use Rattle.replay.specs.Simulation.{HasNextInterval, HasRecorded, HasRoomForInterval}
+use Rattle.replay.specs.ReferenceRun.{RunState, access_room, all_delayed, time_of, woven_interval}
+use Rattle.replay.specs.Simulation.{HasNextInterval, HasRecorded, HasRoomForInterval, LeadsTo, cores_of}
 use Rattle.replay.proofs.GoneOn.{same_recorder, small_room, woven_entries}
-use Rattle.replay.proofs.NextInterval.{fits_more, has_room}
+use Rattle.replay.proofs.NextInterval.{Laws, fits_more, has_room, leads_on}
 
 -- it has no more events than sixty for each access
 pub few_events : (machine : Machine) (comps : List Comp) (r : RecorderState) → IsSoundWeave machine comps (accesses_in r) (recorded_interval machine comps r)
     → length (recorded_interval machine comps r).events ≤ 60 * length (recorded_interval machine comps r).entries
 few_events machine comps r sound = omega (arith, sound.events.few, ap length (woven_entries machine comps (accesses_in r)))
 
-module _ (machine : Machine) (image : MemoryImage) (end : ℕ) (before p : Simulation) where
-  pub is_recorded : (h : HasRecorded machine image end before p) (r : RecorderState) → p.memory ≡ memory.Alone r → IsRecorded machine r
+module _ (machine : Machine) (image : MemoryImage) (end : ℕ) (before : Simulation) (turns : List ℕ) (p : Simulation) where
+  pub is_recorded : (h : HasRecorded machine image end before turns p) (r : RecorderState) → p.memory ≡ memory.Alone r → IsRecorded machine r
   is_recorded h r is = subst (IsRecorded machine) (same_recorder p.memory h.recorder r h.alone is) h.recorded
 
-  module _ (s : RunState) (goes : HasNextInterval machine end s before) (h : HasRecorded machine image end before p) where
+  module _ (s : RunState) (goes : HasNextInterval machine end s before) (h : HasRecorded machine image end before turns p) where
     room : HasRoomForInterval machine end before
     room = has_room machine end s before goes
 
@@ -70,3 +69,19 @@ module _ (machine : Machine) (image : MemoryImage) (end : ℕ) (before p : Simul
             comp_counts = ap (λ (counts : Counts). length counts.comp_counts) h.counters ∙ room.comps;
             fits = subst (λ (counts : Counts). CountsFit (added counts i (comps_after comp_step i.events p.comps))) (sym h.counters) all;
           }
+
+      -- it leads on from there, with its weave
+      pub led : Laws (time_of machine) image end → (q : Simulation) → cores_of q ≡ all_delayed (recorded_interval machine p.comps r).delays (cores_of p) → AreNumbered q.cores.items → q.memory ≡ p.memory
+          → q.comps ≡ comps_after comp_step (recorded_interval machine p.comps r).events p.comps → q.counters ≡ added p.counters (recorded_interval machine p.comps r) q.comps
+          → (leads : LeadsTo machine image s turns q) × (leads.entries ≡ accesses_in h.recorder)
+      led laws q cores numbered memory comps counters =
+          let i : Interval = recorded_interval machine p.comps r in
+          let entries : List Entry = accesses_in h.recorder in
+          let from : p.comps ≡ s.comps = h.comps ∙ goes.come.comps in
+          let order : accesses_in r ≡ entries = ap accesses_in (sym (same_recorder p.memory h.recorder r h.alone is)) in
+          let woven : i ≡ woven_interval machine s.comps entries = ap (λ (comps : List Comp). woven_interval machine comps (accesses_in r)) from ∙ ap (woven_interval machine s.comps) order in
+          let are : AreComponents machine (comps_after comp_step i.events s.comps) = subst (λ (cs : List Comp). AreComponents machine (comps_after comp_step i.events cs)) from sound.stay in
+          leads_on machine ok image end s before p goes turns entries h.bounded laws i woven (woven_entries machine p.comps (accesses_in r) ∙ order)
+          (sound.timely, sound.delays_small) (few_events machine p.comps r sound) are q cores numbered memory
+          (comps ∙ ap (comps_after comp_step i.events) from)
+          (counters ∙ ap (λ (counts : Counts). added counts i q.comps) h.counters)

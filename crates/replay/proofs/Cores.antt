@@ -109,21 +109,7 @@ all_waited delays before after same each =
     let here : k ≡ 0 + k = omega arith in
     each k d below ∙ ap (λ (n : ℕ). delayed (slice_index delays n) (get_or before k d).timed) here)
 
--- what holds of each core in time holds of cores that are the same in time
-pub ready_again : (P : TimedCore → Type 0) (before after : List NumberedCore) → timed_of after ≡ timed_of before → ((i : ℕ) (c : NumberedCore) → slice_get before i ≡ Some c → P c.timed)
-    → (i : ℕ) (c : NumberedCore) → slice_get after i ≡ Some c → P c.timed
-ready_again P before after same each i c here = each_timed P after (subst (All P) (sym same) (all_timed P before each)) i c here (slice_get_within after i c here)
-
--- the same cores in time, one by one
-pub same_timed : (before after : List NumberedCore) → length after ≡ length before → ((k : ℕ) (d : NumberedCore) → (get_or after k d).timed ≡ (get_or before k d).timed) → timed_of after ≡ timed_of before
-same_timed [] [] same each = refl
-same_timed [] (y ∷ ys) same each = absurd (omega (arith, same))
-same_timed (x ∷ xs) [] same each = absurd (omega (arith, same))
-same_timed (x ∷ xs) (y ∷ ys) same each =
-    let first : y.timed ≡ x.timed = each 0 x in
-    let rest : timed_of ys ≡ timed_of xs = same_timed xs ys (omega (arith, same)) (λ k d. each (suc k) d) in
-    ap (λ (c : TimedCore). c ∷ timed_of ys) first ∙ ap (λ (cs : List TimedCore). x.timed ∷ cs) rest
-
+-- the same numbers, one by one
 pub same_numbers : (before after : List NumberedCore) → length after ≡ length before → ((k : ℕ) (d : NumberedCore) → (get_or after k d).number ≡ (get_or before k d).number)
     → AreNumbered before → AreNumbered after
 same_numbers before after same each numbered = λ i c here.

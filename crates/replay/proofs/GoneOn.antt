@@ -1,5 +1,5 @@
 -- A run that has gone on by an interval.
-use Rattle.std.proofs.Common.{◌≡◌, false, true, ℕ, ◌^◌, ◌*◌, ◌+◌, ◌<◌, ◌≤◌, List, [], ◌∷◌, ◌++◌, map, refl, sym, ◌∙◌, ap, subst, arith, tests}
+use Rattle.std.proofs.Common.{◌≡◌, ℕ, ◌^◌, ◌*◌, ◌+◌, ◌≤◌, List, [], ◌∷◌, ◌++◌, map, refl, sym, ◌∙◌, ap, subst, arith, tests}
 use Rattle.zs_num.specs.declared.entry.Entry.{Entry}
 use Rattle.elf_load.specs.MemoryImage.{MemoryImage}
 use Rattle.machine_desc.specs.declared.machine.Machine.{Machine}
@@ -11,7 +11,6 @@ use Rattle.replay.specs.declared.memory.Memory.{Memory}
 use Rattle.replay.specs.declared.memory.Memory.TheVariants as memory
 use Rattle.replay.specs.declared.recording.Recording.{Recording}
 use Rattle.replay.specs.declared.simulation.Simulation.{Simulation}
-use Rattle.replay.specs.Memory.{is_alone, is_logged}
 use Rattle.replay.specs.Recording.{IsRecordingOf}
 use Rattle.replay.specs.ReferenceRun.{RunState, access_room, after_interval, woven_interval}
 use Rattle.replay.specs.Simulation.{HasGoneOn, LeadsTo}
@@ -43,12 +42,6 @@ woven_entries machine comps entries = refl
 pub same_recorder : (m : Memory) (r other : RecorderState) → m ≡ memory.Alone r → m ≡ memory.Alone other → r ≡ other
 same_recorder m r other is too =
     let same : memory.Alone r ≡ memory.Alone other = sym is ∙ too in cc
-
--- what one worker has alone is no port for a list of turns
-pub alone_not_logged : (m : Memory) → is_alone m ≡ true → is_logged m ≡ false
-alone_not_logged (memory.Alone recorder) alone = refl
-alone_not_logged (memory.Logged port) alone = let not : false ≡ true = alone in cc
-alone_not_logged (memory.Shared shards) alone = let not : false ≡ true = alone in cc
 
 bounded_product : (cores interval : ℕ) → cores ≤ 256 → interval ≤ 10258 → cores * interval ≤ 256 * 10258
 bounded_product cores interval few short = grind (arith, tests)

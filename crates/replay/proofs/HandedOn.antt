@@ -3,7 +3,11 @@ use Rattle.std.proofs.Common.{◌≡◌, ℕ, List, Result, Ok, Err, sym, subst}
 use Rattle.std.specs.Prelude.{IfErr, IsErrAnd}
 use Rattle.elf_load.specs.MemoryImage.{MemoryImage}
 use Rattle.machine_desc.specs.declared.machine.Machine.{Machine}
+use Rattle.bound_records.specs.Intervals.{IfIllegalTurn}
+use Rattle.bound_records.specs.declared.turns_fail.TurnsFail.{TurnsFail}
+use Rattle.bound_records.specs.declared.turns_fail.TurnsFail.TheVariants as turns_fail
 use Rattle.replay.specs.Replay.{IfIllegal, Replays}
+use Rattle.replay.specs.Simulation.{fail_of}
 use Rattle.replay.specs.ReferenceRun.{Illegal, IsIllegalAt}
 use Rattle.replay.specs.Results.{Results}
 use Rattle.replay.specs.declared.replay_fail.ReplayFail.{ReplayFail}
@@ -18,6 +22,11 @@ handed_on P why (Err e) gives p = subst P (sym gives) p
 pub of_place : (why : ReplayFail) (P Q : Illegal → Type 0) → ((at : Illegal) → P at → Q at) → IfIllegal why P → IfIllegal why Q
 of_place (fail.Illegal interval place) P Q follows p = follows (record { interval = interval; place = place }) p
 of_place fail.NoMemory P Q follows p = tt
+
+-- the same of the turns of an interval
+pub of_turn : (interval : ℕ) (why : TurnsFail) (P : (place : ℕ) → Type 0) (Q : Illegal → Type 0) → ((place : ℕ) → P place → Q (record { interval = interval; place = place })) → IfIllegalTurn why P → IfIllegal (fail_of interval why) Q
+of_turn interval (turns_fail.Illegal place) P Q follows p = follows place p
+of_turn interval turns_fail.NoMemory P Q follows p = tt
 
 -- the answer of a replay that failed
 failed_as : (machine : Machine) (image : MemoryImage) (lists : List (List ℕ)) (why : ReplayFail) → IfIllegal why (IsIllegalAt machine image lists) → Replays machine image lists (Err why)

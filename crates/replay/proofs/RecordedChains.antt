@@ -10,7 +10,6 @@ use Rattle.component.specs.Components.{AreComponents}
 use Rattle.component.specs.Greatest.{comp_greatest}
 use Rattle.component.specs.Serving.{comp_latency, comp_serves}
 use Rattle.event_graph.specs.declared.event.Event.{Event}
-use Rattle.event_graph.specs.AccessPaths.{path_of}
 use Rattle.event_graph.specs.EventGraph.{all_events}
 use Rattle.event_graph.specs.Fits.{GraphFits}
 use Rattle.event_graph.specs.SmallSteps.{AreSmallSteps}

@@ -1,7 +1,7 @@
 -- The weave of an interval of whose accesses one worker has kept records is that of the run.
-use Rattle.std.proofs.Common.{◌≡◌, ◌==◌, ◌<◌, ◌≤◌, ◌^◌, ℕ, List, All, length, map, get_or, Option, None, Some, false, refl, sym, ◌∙◌, ap, subst, arith}
+use Rattle.std.proofs.Common.{◌≡◌, ◌==◌, ◌<◌, ℕ, List, length, map, get_or, Option, None, Some, false, refl, sym, ◌∙◌, ap, subst, arith}
 use Rattle.std.specs.Prelude.{slice_get}
-use Rattle.std.specs.List.{filter, range_with_len, zip}
+use Rattle.std.specs.List.{filter, zip}
 use Rattle.std.specs.Option.{option_map}
 use Rattle.std.proofs.lemmas.List.FromFn.{get_or-map-range_with_len, length-map-range_with_len}
 use Rattle.std.proofs.lemmas.Option.{get_or_from_slice_get, same_Some, slice_get-map, slice_get_within}
@@ -9,17 +9,13 @@ use Rattle.zs_num.specs.declared.entry.Entry.{Entry}
 use Rattle.machine_desc.specs.declared.machine.Machine.{Machine}
 use Rattle.component.specs.declared.comp.Comp.{Comp}
 use Rattle.component.specs.ComponentStep.{comp_step}
-use Rattle.component.specs.Components.{AreComponents}
 use Rattle.event_graph.specs.declared.event.Event.{Event}
-use Rattle.event_graph.specs.declared.fired.Fired.{Fired}
 use Rattle.event_graph.specs.AccessPaths.{path_of}
 use Rattle.event_graph.specs.EventGraph.{all_events}
 use Rattle.event_graph.specs.OneListWeave.{comps_after, fired_of, woven}
 use Rattle.noc_mesh.specs.declared.net.Net.{Net}
 use Rattle.noc_mesh.specs.NetTiming.{net_pieces}
 use Rattle.feedback.specs.FeedbackDelay.{feedback_delays}
-use Rattle.access_log.specs.History.{of_core}
-use Rattle.access_log.specs.Laws.{RecordedOrderKeepsTheStamps}
 use Rattle.stats.specs.declared.counts.CompCount.{CompCount}
 use Rattle.stats.specs.declared.counts.CoreCount.{CoreCount}
 use Rattle.stats.specs.Counted.{comp_sum, core_sum, entry_count, event_count}
@@ -33,7 +29,7 @@ use Rattle.bound_records.specs.Counted.{count_of}
 use Rattle.bound_records.specs.Recorders.{RecorderState, counts_in, entries_of, kept_lists, recorded_kept}
 use Rattle.replay.specs.declared.recording.Recording.{Recording}
 use Rattle.replay.specs.declared.recording.Recording.TheVariants.{Off, On, TooLong}
-use Rattle.replay.specs.IntervalWeave.{AreEventsOf, HaveFired}
+use Rattle.replay.specs.IntervalWeave.{AreEventsOf}
 use Rattle.replay.specs.Recording.{IsRecordingOf, is_on}
 use Rattle.replay.specs.Records.{IsRecorded, accesses_in, recorded_interval}
 use Rattle.replay.specs.ReferenceRun.{woven_interval}
@@ -41,28 +37,20 @@ use Rattle.replay.specs.ReferenceRun.{woven_interval}
 module _ (machine : Machine) (r : RecorderState) (rec : IsRecorded machine r) where
   -- ---- what is counted of the accesses
 
-  known : All (λ e. e.core < length r.lists) (entries_of r)
-  known = subst (λ (n : ℕ). All (λ (e : Entry). e.core < n) (entries_of r)) (sym rec.many) rec.cores
-
-  -- in recorded order each core has its own accesses in its order
-  own_in_order : RecordedOrderKeepsTheStamps → (core : ℕ) (entries : List Entry) → slice_get r.lists core ≡ Some entries → of_core core (accesses_in r) ≡ entries
-  own_in_order law core entries here =
-      (law (length r.world.shards) (length r.lists) (entries_of r) rec.in_turn.some known rec.in_turn.stamped).2.core core ∙ rec.own core entries here
-
-  core_count : RecordedOrderKeepsTheStamps → (core : ℕ) (c : CoreCount) → slice_get (counts_in r) core ≡ Some c
+  core_count : (core : ℕ) (c : CoreCount) → slice_get (counts_in r) core ≡ Some c
       → (found : Option (List Entry)) → slice_get r.lists core ≡ found → c ≡ core_sum (map entry_count (filter (λ e. e.core == core) (accesses_in r)))
-  core_count law core c here None none =
+  core_count core c here None none =
       let not : slice_get (counts_in r) core ≡ None = slice_get-map count_of r.lists core ∙ ap (option_map count_of) none in
       let wrong : Some c ≡ None = sym here ∙ not in
       absurd cc
-  core_count law core c here (Some entries) there =
+  core_count core c here (Some entries) there =
       let is : slice_get (counts_in r) core ≡ Some (count_of entries) = slice_get-map count_of r.lists core ∙ ap (option_map count_of) there in
-      same_Some c (count_of entries) (sym here ∙ is) ∙ ap count_of (sym (own_in_order law core entries there))
+      same_Some c (count_of entries) (sym here ∙ is) ∙ ap count_of (sym (rec.own core entries there))
 
-  pub access_counts : RecordedOrderKeepsTheStamps → (comps : List Comp) → AreAccessCounts (recorded_interval machine comps r) (counts_in r) (length (entries_of r))
+  pub access_counts : (comps : List Comp) → AreAccessCounts (recorded_interval machine comps r) (counts_in r) (length (entries_of r))
   unfolding woven_interval
-  access_counts law comps = record {
-    each = λ core c here. core_count law core c here (slice_get r.lists core) refl;
+  access_counts comps = record {
+    each = λ core c here. core_count core c here (slice_get r.lists core) refl;
     count = sym (length_recorded (entries_of r));
   }
 
@@ -109,21 +97,15 @@ module _ (machine : Machine) (r : RecorderState) (rec : IsRecorded machine r) wh
 
   -- ---- the weave in recorded order
 
-  -- the events of the accesses as their records give them back have fired
-  pub fired_in_order : (comps after : List Comp) (graph : List Event) (fired : List Fired) → AreComponents machine comps → AreEventsOf machine comps (recorded_kept r) graph
-      → fired ≡ map fired_of (woven comp_step graph comps) → after ≡ comps_after comp_step graph comps → HaveFired machine comps (accesses_in r) graph fired after
-  fired_in_order comps after graph fired components events fired_are after_are = record {
-    components = components;
-    events = record {
-      are = events.are ∙ rec.kept.events;
-      numbered = events.numbered;
-      fits = events.fits;
-      small = events.small;
-      cores = events.cores;
-      few = omega (arith, events.few, rec.kept.recorded_few, length_recorded (entries_of r));
-    };
-    fired_are = fired_are;
-    after_are = after_are;
+  -- the events of the accesses as their records give them back are those of the interval
+  pub events_in_order : (comps : List Comp) (graph : List Event) → AreEventsOf machine comps (recorded_kept r) graph → AreEventsOf machine comps (accesses_in r) graph
+  events_in_order comps graph events = record {
+    are = events.are ∙ rec.kept.events;
+    numbered = events.numbered;
+    fits = events.fits;
+    small = events.small;
+    cores = events.cores;
+    few = omega (arith, events.few, rec.kept.recorded_few, length_recorded (entries_of r));
   }
 
 -- the counts of accesses, however they are written

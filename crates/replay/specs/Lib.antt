@@ -1,7 +1,6 @@
 pub mod Results
 pub mod Limits
 pub mod Memory
-pub mod Port
 pub mod ReferenceRun
 pub mod Replay
 pub mod IntervalWeave
@@ -9,5 +8,4 @@ pub mod RunEvents
 pub mod Recording
 pub mod Records
 pub mod Simulation
-pub mod Turns
 pub mod Laws

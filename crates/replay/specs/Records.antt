@@ -13,7 +13,7 @@ use Rattle.stats.specs.Added.{added}
 use Rattle.stats.specs.Counts.{Counts, Interval}
 use Rattle.stats.specs.CountsFit.{CountsFit}
 use Rattle.bound_records.specs.Intervals.{AreKept}
-use Rattle.bound_records.specs.Recorders.{AreStampedInTurn, RecorderState, entries_of}
+use Rattle.bound_records.specs.Recorders.{RecorderState, entries_of}
 use Rattle.replay.specs.ReferenceRun.{access_room, woven_interval}
 
 -- its accesses, in recorded order
@@ -27,11 +27,11 @@ recorded_interval machine comps r = woven_interval machine comps (accesses_in r)
 -- what is kept of an interval's accesses, core by core
 pub record IsRecorded (machine : Machine) (r : RecorderState) : Type 0 where
   pub many : length r.lists ≡ machine.cores
-  pub own : (core : ℕ) (entries : List Entry) → slice_get r.lists core ≡ Some entries → of_core core (entries_of r) ≡ entries
+  -- in recorded order each core has its own, in its order
+  pub own : (core : ℕ) (entries : List Entry) → slice_get r.lists core ≡ Some entries → of_core core (accesses_in r) ≡ entries
   pub cores : All (λ e. e.core < machine.cores) (entries_of r)
   pub starts : All (λ e. e.start ≤ 2 ^ 34) (entries_of r)
   pub few : length (entries_of r) ≤ access_room machine
-  pub in_turn : AreStampedInTurn r
   pub kept : AreKept machine r
 
 -- The interval is woven and counted: these are its delays, and what is left of the components and the counts.

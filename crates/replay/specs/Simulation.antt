@@ -22,8 +22,14 @@ use Rattle.access_log.specs.RecordedOrder.{recorded_order}
 use Rattle.stats.specs.Counts.{counts_of, total_accesses, total_events}
 use Rattle.stats.specs.Laws.{WasRun}
 use Rattle.bound_records.specs.CoreRuns.{AreNumbered, CanRunInterval}
-use Rattle.bound_records.specs.Recorders.{RecorderState}
+use Rattle.access_record.specs.Turns.{in_turns}
+use Rattle.access_record.specs.declared.turns.Turns.TheVariants.{CoreByCore}
+use Rattle.bound_records.specs.Recorders.{AreStampedInTurn, AreTakenIn, RecorderState}
+use Rattle.bound_records.specs.declared.turns_fail.TurnsFail.{TurnsFail}
+use Rattle.bound_records.specs.declared.turns_fail.TurnsFail.TheVariants as turns_fail
 use Rattle.replay.specs.declared.memory.Memory.TheVariants as memory
+use Rattle.replay.specs.declared.replay_fail.ReplayFail.{ReplayFail}
+use Rattle.replay.specs.declared.replay_fail.ReplayFail.TheVariants as fail
 use Rattle.replay.specs.declared.recording.Recording.{Recording}
 use Rattle.replay.specs.declared.simulation.Simulation.{Simulation}
 use Rattle.replay.specs.IntervalWeave.{HaveFired}
@@ -129,15 +135,32 @@ pub record HasFired (machine : Machine) (image : MemoryImage) (s : RunState) (tu
   pub woven : HaveFired machine before.comps entries graph fired p.comps
   pub counters : p.counters ≡ before.counters
 
--- The run has the bound phase of its next interval behind it, by one worker, who has recorded it: its turns are those of
--- the accesses in recorded order.
-pub record HasRecorded (machine : Machine) (image : MemoryImage) (end : ℕ) (before after : Simulation) : Type 0 where
+-- The run has the bound phase of its next interval behind it, under these turns, by one worker, who has recorded it.
+pub record HasRecorded (machine : Machine) (image : MemoryImage) (end : ℕ) (before : Simulation) (turns : List ℕ) (after : Simulation) : Type 0 where
   pub recorder : RecorderState
   pub alone : after.memory ≡ memory.Alone recorder
-  pub bounded : IsBoundPhase machine image end before (map (λ e. e.core) (accesses_in recorder)) after (accesses_in recorder)
+  pub bounded : IsBoundPhase machine image end before turns after (accesses_in recorder)
   pub recorded : IsRecorded machine recorder
   pub comps : after.comps ≡ before.comps
   pub counters : after.counters ≡ before.counters
+
+-- The turns are those of the accesses in recorded order. The cores ran one after the other.
+pub record HasRecordedInOrder (machine : Machine) (image : MemoryImage) (end : ℕ) (before after : Simulation) : Type 0 where
+  pub turns : List ℕ
+  pub has : HasRecorded machine image end before turns after
+  pub in_order : turns ≡ map (λ e. e.core) (accesses_in has.recorder)
+  pub in_turn : AreTakenIn CoreByCore has.recorder
+
+-- The cores ran by the turns.
+pub record HasRecordedUnder (machine : Machine) (image : MemoryImage) (end : ℕ) (before : Simulation) (turns : List ℕ) (after : Simulation) : Type 0 where
+  pub has : HasRecorded machine image end before turns after
+  pub named : turns ≡ map (λ e. e.core) (in_turns turns has.recorder.lists)
+  pub in_turn : AreStampedInTurn (in_turns turns has.recorder.lists) has.recorder
+
+-- why a replay fails whose turns of this interval do
+abbrev pub fail_of : (interval : ℕ) → TurnsFail → ReplayFail
+fail_of interval (turns_fail.Illegal place) = fail.Illegal interval place
+fail_of interval turns_fail.NoMemory = fail.NoMemory
 
 -- an interval under these turns leads on from there
 pub record LeadsTo (machine : Machine) (image : MemoryImage) (s : RunState) (turns : List ℕ) (p : Simulation) : Type 0 where

@@ -4,10 +4,10 @@ ghost use Rattle.machine_desc.specs.Machine.{IsMachine};
 ghost use Rattle.elf_load.specs.MemoryImage.{MemoryImage};
 ghost use Rattle.bound_records.specs.CoreRuns.{IsNetOf};
 ghost use Rattle.replay.specs.declared.simulation.Simulation.{Simulation};
-ghost use Rattle.replay.specs.Memory.{is_alone, is_logged};
+ghost use Rattle.replay.specs.Memory.{is_alone};
 ghost use Rattle.replay.specs.Recording.{IsRecordingSoFar, is_on};
 ghost use Rattle.replay.specs.ReferenceRun.{RunState};
-ghost use Rattle.replay.specs.Simulation.{HasGoneOn, HasNextInterval, HasRecorded, HasRoomForInterval};
+ghost use Rattle.replay.specs.Simulation.{HasGoneOn, HasNextInterval, HasRecordedInOrder, HasRoomForInterval};
 
 use crate::Recording;
 use crate::memory::Memory;
@@ -53,7 +53,6 @@ pub fn interval_alone<R: Threads + Sync, G: Gate>(
     requires goes_on { (s : RunState) × HasNextInterval machine.now end s simulation }
     ensures goes_on { IfOk result (λ r. (s : RunState) → HasNextInterval machine.now end s simulation → HasGoneOn machine.now program.now s r.1.items recording.old recording.new r.0) }
     ensures on { is_on recording.new ≡ is_on recording.old }
-    ensures not_logged { IfOk result (λ r. is_logged r.0.memory ≡ false) }
     ensures cores { IfOk result (λ r. All (λ number. number < machine.now.cores) r.1.items) }
     ensures few { IfOk result (λ r. vec_len r.1 < 2 ^ 32) }
 {
@@ -89,7 +88,7 @@ fn bound_alone<G: Gate>(
     requires end { end ≤ 10 * 2 ^ 30 }
     requires alone { is_alone simulation.memory ≡ true }
     requires room { HasRoomForInterval machine.now end simulation }
-    ensures recorded { IfOk result (HasRecorded machine.now program.now end simulation) }
+    ensures recorded { IfOk result (HasRecordedInOrder machine.now program.now end simulation) }
 {
     bound_core::laws::phases_are_histories();
     bound_core::laws::histories_are_phases();
@@ -134,10 +133,9 @@ fn weave_alone<R: Threads + Sync, G: Gate>(
     requires machine { IsMachine machine.now }
     requires net { IsNetOf machine.now net.now }
     requires recording { IsRecordingSoFar machine.now recording.old }
-    requires recorded { (image : MemoryImage) × (end : ℕ) × (before : Simulation) × (s : RunState) × HasNextInterval machine.now end s before × HasRecorded machine.now image end before simulation.old }
-    ensures goes_on { IfOk result (λ turns. (image : MemoryImage) (end : ℕ) (before : Simulation) (s : RunState) → HasNextInterval machine.now end s before → HasRecorded machine.now image end before simulation.old → HasGoneOn machine.now image s turns.items recording.old recording.new simulation.new) }
+    requires recorded { (image : MemoryImage) × (end : ℕ) × (before : Simulation) × (s : RunState) × HasNextInterval machine.now end s before × HasRecordedInOrder machine.now image end before simulation.old }
+    ensures goes_on { IfOk result (λ turns. (image : MemoryImage) (end : ℕ) (before : Simulation) (s : RunState) → HasNextInterval machine.now end s before → HasRecordedInOrder machine.now image end before simulation.old → HasGoneOn machine.now image s turns.items recording.old recording.new simulation.new) }
     ensures on { is_on recording.new ≡ is_on recording.old }
-    ensures alone { OnOk result (is_alone simulation.new.memory ≡ true) }
     ensures cores { IfOk result (λ turns. All (λ number. number < machine.now.cores) turns.items) }
     ensures few { IfOk result (λ turns. vec_len turns < 2 ^ 32) }
 {

@@ -9,7 +9,6 @@ mod first_passes;
 pub mod laws;
 mod limits;
 mod list_gate;
-mod logged_port;
 mod memory;
 mod recording;
 mod records;
@@ -18,7 +17,7 @@ mod replaying;
 mod results;
 mod running;
 mod simulation;
-mod turns;
+mod under;
 mod weaving;
 
 pub use recording::Recording;

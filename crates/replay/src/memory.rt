@@ -1,10 +1,9 @@
 //! Where a run keeps caches and memory.
-ghost use Rattle.std.specs.Prelude.{◌≡◌, false, true, IfOk};
+ghost use Rattle.std.specs.Prelude.{◌≡◌, ◌==◌, IfOk};
 ghost use Rattle.machine_desc.specs.Machine.{IsMachine};
 ghost use Rattle.shard.specs.StandsFor.{new_shards};
-ghost use Rattle.replay.specs.Memory.{IsForMachine, is_alone, is_logged, shards_in};
+ghost use Rattle.replay.specs.Memory.{IsForMachine, is_alone, shards_in};
 
-use crate::logged_port::LoggedPort;
 use bound_records::Recorder;
 use elf_load::Image;
 use machine_desc::Machine;
@@ -17,8 +16,6 @@ use zs_num::NoMemory;
 pub enum Memory {
     /// With what the one worker that has it keeps of the accesses of an interval.
     Alone(Recorder),
-    /// With a port through which the turns of a list are taken.
-    Logged(LoggedPort),
     /// As shards in order of their numbers, at which several workers take turns.
     Shared(Vec<Shard>),
 }
@@ -36,7 +33,7 @@ impl Memory {
         requires size { image.now.size ≡ machine.now.memory.size }
         ensures shards { IfOk result (λ m. shards_in m ≡ new_shards machine.now image.now) }
         ensures for_machine { IfOk result (IsForMachine machine.now) }
-        ensures not_logged { IfOk result (λ m. is_logged m ≡ false) }
+        ensures alone { IfOk result (λ m. is_alone m ≡ (workers == 1)) }
     {
         if workers == 1 {
             Ok(Memory::Alone(Recorder::new(alloc, machine, image)?))
@@ -45,25 +42,13 @@ impl Memory {
         }
     }
 
-    /// The same, for turns in the order of a list.
-    pub fn for_turns(alloc: Global, machine: &Machine, image: &Image) -> Result<Self, NoMemory>
-        requires machine { IsMachine machine.now }
-        requires base { image.now.base ≡ machine.now.memory.base }
-        requires size { image.now.size ≡ machine.now.memory.size }
-        ensures shards { IfOk result (λ m. shards_in m ≡ new_shards machine.now image.now) }
-        ensures for_machine { IfOk result (IsForMachine machine.now) }
-        ensures logged { IfOk result (λ m. is_logged m ≡ true) }
-    {
-        Ok(Memory::Logged(LoggedPort::new(alloc, machine, image)?))
-    }
-
     /// Whether one worker has it alone.
     pub fn is_alone(&self) -> bool
         ensures { result ≡ is_alone self.now }
     {
         match self {
             Memory::Alone(_) => true,
-            Memory::Logged(_) | Memory::Shared(_) => false,
+            Memory::Shared(_) => false,
         }
     }
 }

@@ -3,17 +3,23 @@ ghost use Rattle.std.specs.Prelude.{◌≡◌, ◌*◌, ◌≤◌, ◌^◌, ◌+
 ghost use Rattle.machine_desc.specs.Machine.{IsMachine};
 ghost use Rattle.component.specs.ComponentStep.{free_of};
 ghost use Rattle.component.specs.Components.{AreComponents};
+ghost use Rattle.component.specs.declared.comp.Comp.{Comp};
 ghost use Rattle.stats.specs.Counts.{Interval};
+ghost use Rattle.access_record.specs.declared.turns.Turns.TheVariants.{CoreByCore};
 ghost use Rattle.bound_records.specs.CoreRuns.{IsNetOf};
+ghost use Rattle.bound_records.specs.Recorders.{AreTakenIn};
+ghost use Rattle.replay.specs.IntervalWeave.{AreEventsOf, HaveFired};
 ghost use Rattle.replay.specs.Recording.{IsRecordingOf, IsRecordingSoFar, is_on};
-ghost use Rattle.replay.specs.Records.{FitsIn, IsRecorded, IsTakenIn, recorded_interval};
+ghost use Rattle.replay.specs.Records.{FitsIn, IsRecorded, IsTakenIn, accesses_in, recorded_interval};
 
 use crate::Recording;
 use crate::firing::fire_all;
 use crate::first_passes::FirstPasses;
 use crate::weaving::{events_of, intervals_are_woven, woven_of};
+use access_record::Turns;
 use bound_records::Recorder;
 use component::{Comp, Comps};
+use event_graph::{FiredList, Graph};
 use feedback::Delays;
 use machine_desc::Machine;
 use noc_mesh::Net;
@@ -21,7 +27,8 @@ use stats::Counters;
 use std::alloc::Global;
 use std::thread::Threads;
 use weave_chains::{ChainBuffers, weave_chains};
-use zs_host::Gate;
+use weave_seq::weave_seq;
+use zs_host::{Gate, OpenGate};
 use zs_num::{Entries, NoMemory};
 
 /// Fires the events of an interval's accesses by so many workers, who pass the gate before each.
@@ -48,6 +55,7 @@ pub fn weave_recorded<R: Threads + Sync, G: Gate>(
     requires machine { IsMachine machine.now }
     requires net { IsNetOf machine.now net.now }
     requires recorded { IsRecorded machine.now recorder.now }
+    requires turns { AreTakenIn CoreByCore recorder.now }
     requires components { AreComponents machine.now comps.old }
     requires free { All (λ c. free_of c ≤ 2 ^ 56) comps.old }
     requires fits { FitsIn (recorded_interval machine.now comps.old recorder.now) machine.now comps.old counters.old }
@@ -115,7 +123,6 @@ fn weave_by_cores<G: Gate>(
     ensures comps { IfOk result (λ found. IfNone found (comps.new ≡ comps.old)) }
     ensures counters { IfOk result (λ found. IfNone found (counters.new ≡ counters.old)) }
 {
-    access_log::laws::recorded_order_keeps_the_stamps();
     intervals_are_woven();
     if !can_fire_by_cores(workers, recording) {
         return Ok(None);
@@ -161,6 +168,7 @@ fn weave_in_order<R: Threads + Sync, G: Gate>(
     requires machine { IsMachine machine.now }
     requires net { IsNetOf machine.now net.now }
     requires recorded { IsRecorded machine.now recorder.now }
+    requires turns { AreTakenIn CoreByCore recorder.now }
     requires components { AreComponents machine.now comps.old }
     requires free { All (λ c. free_of c ≤ 2 ^ 56) comps.old }
     requires fits { FitsIn (recorded_interval machine.now comps.old recorder.now) machine.now comps.old counters.old }
@@ -169,11 +177,7 @@ fn weave_in_order<R: Threads + Sync, G: Gate>(
     ensures recorded { OnOk result ((intervals : List Interval) → IsRecordingOf machine.now intervals recording.old → IsRecordingOf machine.now (intervals ++ recorded_interval machine.now comps.old recorder.now ∷ []) recording.new) }
     ensures on { is_on recording.new ≡ is_on recording.old }
 {
-    access_log::laws::recorded_order_keeps_the_stamps();
-    event_graph::laws::machine_components_stay();
-    let list = recorder.recorded_accesses(alloc)?;
-    let entries = Entries::of(list);
-    let graph = events_of(alloc, machine, net, &entries, comps)?;
+    let graph = recorded_events(alloc, machine, net, recorder, Turns::CoreByCore, comps)?;
     let fired = fire_all(
         rt,
         alloc,
@@ -185,6 +189,127 @@ fn weave_in_order<R: Threads + Sync, G: Gate>(
         places,
         domains_are_worth,
     )?;
+    let delays = take_in(
+        alloc, machine, recorder, graph, fired, comps, counters, recording,
+    )?;
+    Ok(delays)
+}
+
+/// Fires the events of an interval's accesses, which were made by these turns, and does the same
+/// without a recording: core by core, as far as the order of the accesses does not matter, where no
+/// mesh is crossed.
+pub fn weave_replayed(
+    alloc: Global,
+    machine: &Machine,
+    net: &Net,
+    recorder: &Recorder,
+    turns: Turns<'_>,
+    comps: &mut Comps<Comp>,
+    counters: &mut Counters,
+    places: &[u16],
+    chain_buffers: &mut ChainBuffers,
+) -> Result<Delays, NoMemory>
+    requires machine { IsMachine machine.now }
+    requires net { IsNetOf machine.now net.now }
+    requires recorded { IsRecorded machine.now recorder.now }
+    requires turns { AreTakenIn turns recorder.now }
+    requires components { AreComponents machine.now comps.old }
+    requires free { All (λ c. free_of c ≤ 2 ^ 56) comps.old }
+    requires fits { FitsIn (recorded_interval machine.now comps.old recorder.now) machine.now comps.old counters.old }
+    ensures { IfOk result (IsTakenIn (recorded_interval machine.now comps.old recorder.now) comps.old comps.new counters.old counters.new) }
+{
+    let off = Recording::Off;
+    let found = weave_by_cores(
+        alloc,
+        machine,
+        net,
+        recorder,
+        comps,
+        counters,
+        1,
+        &OpenGate,
+        places,
+        &off,
+        chain_buffers,
+    )?;
+    match found {
+        Some(delays) => Ok(delays),
+        None => weave_on_one_list(alloc, machine, net, recorder, turns, comps, counters),
+    }
+}
+
+/// The same on one list, in the recorded order of the accesses.
+fn weave_on_one_list(
+    alloc: Global,
+    machine: &Machine,
+    net: &Net,
+    recorder: &Recorder,
+    turns: Turns<'_>,
+    comps: &mut Comps<Comp>,
+    counters: &mut Counters,
+) -> Result<Delays, NoMemory>
+    requires machine { IsMachine machine.now }
+    requires net { IsNetOf machine.now net.now }
+    requires recorded { IsRecorded machine.now recorder.now }
+    requires turns { AreTakenIn turns recorder.now }
+    requires components { AreComponents machine.now comps.old }
+    requires free { All (λ c. free_of c ≤ 2 ^ 56) comps.old }
+    requires fits { FitsIn (recorded_interval machine.now comps.old recorder.now) machine.now comps.old counters.old }
+    ensures { IfOk result (IsTakenIn (recorded_interval machine.now comps.old recorder.now) comps.old comps.new counters.old counters.new) }
+{
+    let mut off = Recording::Off;
+    let graph = recorded_events(alloc, machine, net, recorder, turns, comps)?;
+    let fired = weave_seq(alloc, &graph, comps)?;
+    let delays = take_in(
+        alloc, machine, recorder, graph, fired, comps, counters, &mut off,
+    )?;
+    Ok(delays)
+}
+
+/// The events of an interval's accesses, which were made by these turns.
+fn recorded_events(
+    alloc: Global,
+    machine: &Machine,
+    net: &Net,
+    recorder: &Recorder,
+    turns: Turns<'_>,
+    comps: &Comps<Comp>,
+) -> Result<Graph, NoMemory>
+    requires machine { IsMachine machine.now }
+    requires net { IsNetOf machine.now net.now }
+    requires recorded { IsRecorded machine.now recorder.now }
+    requires turns { AreTakenIn turns recorder.now }
+    requires components { AreComponents machine.now comps.now }
+    requires free { All (λ c. free_of c ≤ 2 ^ 56) comps.now }
+    ensures { IfOk result (AreEventsOf machine.now comps.now (accesses_in recorder.now)) }
+{
+    let list = recorder.recorded_accesses(alloc, turns)?;
+    let entries = Entries::of(list);
+    let graph = events_of(alloc, machine, net, &entries, comps)?;
+    Ok(graph)
+}
+
+/// Takes in an interval whose events have fired: counts it, and adds it to the recording. Answers
+/// the delays of the cores.
+fn take_in(
+    alloc: Global,
+    machine: &Machine,
+    recorder: &Recorder,
+    graph: Graph,
+    fired: FiredList,
+    comps: &Comps<Comp>,
+    counters: &mut Counters,
+    recording: &mut Recording,
+) -> Result<Delays, NoMemory>
+    requires machine { IsMachine machine.now }
+    requires recorded { IsRecorded machine.now recorder.now }
+    requires fired { (before : List Comp) × HaveFired machine.now before (accesses_in recorder.now) graph fired comps.now × FitsIn (recorded_interval machine.now before recorder.now) machine.now before counters.old }
+    requires recording { IsRecordingSoFar machine.now recording.old }
+    ensures taken { IfOk result (λ delays. (before : List Comp) → HaveFired machine.now before (accesses_in recorder.now) graph fired comps.now → IsTakenIn (recorded_interval machine.now before recorder.now) before comps.now counters.old counters.new delays) }
+    ensures recorded { OnOk result ((before : List Comp) → HaveFired machine.now before (accesses_in recorder.now) graph fired comps.now → (intervals : List Interval) → IsRecordingOf machine.now intervals recording.old → IsRecordingOf machine.now (intervals ++ recorded_interval machine.now before recorder.now ∷ []) recording.new) }
+    ensures on { is_on recording.new ≡ is_on recording.old }
+{
+    event_graph::laws::machine_components_stay();
     let woven = woven_of(alloc, machine, graph, fired)?;
     recording.keep(&woven.graph, &woven.fired)?;
     counters.add_events(

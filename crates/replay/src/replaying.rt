@@ -2,20 +2,23 @@
 ghost use Rattle.std.specs.Prelude.{◌≡◌, true, IfOk};
 ghost use Rattle.std.specs.List.{range_with_len};
 ghost use Rattle.machine_desc.specs.Machine.{IsMachine};
-ghost use Rattle.replay.specs.Memory.{is_logged};
+ghost use Rattle.replay.specs.Memory.{is_alone};
 ghost use Rattle.replay.specs.Replay.{Replays};
 ghost use Rattle.replay.specs.Results.{HasCounts};
 ghost use Rattle.replay.specs.Simulation.{IsAtStart};
 
 use crate::memory::Memory;
 use crate::simulation::Simulation;
+use crate::under::interval_under;
 use crate::{Final, ReplayFail};
 use access_log::Schedule;
+use domain_map::component_domains;
 use elf_load::Image;
 use machine_desc::Machine;
 use noc_mesh::Net;
 use rv_blocks::DecodedProgram;
 use std::alloc::Global;
+use weave_chains::ChainBuffers;
 
 /// Runs an image under a schedule: in each interval the cores take their turns in the order of its
 /// list. Illegal names the first place of the schedule that is not legal for the run.
@@ -33,30 +36,32 @@ pub fn replay(
     ensures counted { IfOk result (HasCounts machine.now) }
     ensures numbered { IfOk result (λ r. r.numbers ≡ range_with_len 0 machine.now.cores) }
 {
+    let places = component_domains(alloc, machine)?;
     let program = DecodedProgram::of(alloc, image)?;
-    let memory = Memory::for_turns(alloc, machine, image)?;
+    let memory = Memory::for_workers(alloc, machine, image, 1)?;
     let simulation = Simulation::new(alloc, machine, image, memory)?;
-    replay_on(alloc, machine, &program, simulation, schedule)
+    replay_on(alloc, machine, &program, &places, simulation, schedule)
 }
 
-/// The same, of a simulation that is at its start.
+/// The same, of a simulation that is at its start. `places` has the domain of each component.
 fn replay_on(
     alloc: Global,
     machine: &Machine,
     program: &DecodedProgram<'_>,
+    places: &[u16],
     mut simulation: Simulation,
     schedule: &Schedule,
 ) -> Result<Final, ReplayFail>
     requires machine { IsMachine machine.now }
     requires starts { IsAtStart machine.now program.now simulation }
-    requires logged { is_logged simulation.memory ≡ true }
+    requires alone { is_alone simulation.memory ≡ true }
     requires cores { schedule.now.cores ≡ machine.now.cores }
     ensures gives { Replays machine.now program.now schedule.now.lists result }
     ensures counted { IfOk result (HasCounts machine.now) }
     ensures numbered { IfOk result (λ r. r.numbers ≡ range_with_len 0 machine.now.cores) }
 {
     let net = Net::of(machine);
-    let mut list = Vec::new(alloc);
+    let mut chain_buffers = ChainBuffers::new(alloc);
     let lists = schedule.intervals();
     let mut k = 0;
     let mut end = 0;
@@ -69,7 +74,18 @@ fn replay_on(
         }
         end += machine.interval;
         let turns = schedule.list(k);
-        list = simulation.interval_under(alloc, machine, program, &net, end, k, turns, list)?;
+        simulation = interval_under(
+            simulation,
+            alloc,
+            machine,
+            program,
+            &net,
+            end,
+            k,
+            turns,
+            places,
+            &mut chain_buffers,
+        )?;
         k += 1;
     }
     if k < lists {

@@ -2,7 +2,6 @@
 ghost use Rattle.std.specs.Prelude.{◌≡◌, ◌≤◌, [], false, IfOk};
 ghost use Rattle.std.specs.List.{range_with_len};
 ghost use Rattle.machine_desc.specs.Machine.{IsMachine};
-ghost use Rattle.replay.specs.Memory.{is_logged};
 ghost use Rattle.replay.specs.Recording.{IsRecordedRun, IsRecordingOf, is_on};
 ghost use Rattle.replay.specs.ReferenceRun.{IsKeptInOrder, IsRunOf};
 ghost use Rattle.replay.specs.Results.{HasCounts};
@@ -88,7 +87,6 @@ fn run_on<R: Threads + Wait + Sync, G: Gate>(
 ) -> Result<Final, NoMemory>
     requires machine { IsMachine machine.now }
     requires starts { IsAtStart machine.now program.now simulation }
-    requires not_logged { is_logged simulation.memory ≡ false }
     requires workers { (1 ≤ workers) × (workers ≤ 64) }
     requires empty { schedule.old.lists ≡ [] }
     requires cores_known { schedule.old.cores ≡ machine.now.cores }

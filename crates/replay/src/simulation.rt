@@ -1,5 +1,5 @@
 //! A run between two intervals, and how it is taken through the next one.
-ghost use Rattle.std.specs.Prelude.{◌≡◌, ◌+◌, ◌-◌, ◌*◌, ◌<◌, ◌≤◌, ◌^◌, ◌++◌, ◌∷◌, min, ℕ, List, [], All, Some, Err, IfErr, IfOk, OnOk, false, is_some, length, map, nat_lt, slice_get, true, vec_len};
+ghost use Rattle.std.specs.Prelude.{◌≡◌, ◌+◌, ◌-◌, ◌*◌, ◌<◌, ◌≤◌, ◌^◌, ◌++◌, ◌∷◌, ℕ, List, [], All, IfOk, OnOk, false, is_some, length, map, nat_lt, vec_len};
 ghost use Rattle.std.specs.List.{list_all, list_any, range_with_len};
 ghost use Rattle.machine_desc.specs.declared.machine.Machine.{Machine};
 ghost use Rattle.machine_desc.specs.Components.{component_count};
@@ -7,29 +7,21 @@ ghost use Rattle.machine_desc.specs.Machine.{IsMachine};
 ghost use Rattle.elf_load.specs.MemoryImage.{MemoryImage};
 ghost use Rattle.component.specs.ComponentStep.{free_of};
 ghost use Rattle.shard.specs.StandsFor.{new_shards};
-ghost use Rattle.bound_core.specs.History.{begun_over_shards};
-ghost use Rattle.bound_core.specs.ReferenceMachine.{bound_phase};
-ghost use Rattle.bound_core.specs.ShardPort.{base_of, l1i_of, room_of, size_of};
-ghost use Rattle.bound_core.specs.ShardWorld.{restarted, shards_serve};
-ghost use Rattle.bound_core.specs.TimedCore.{beside_cycles, first_core};
-ghost use Rattle.bound_core.specs.NumberedCores.{NumberedCore, timed_of};
-ghost use Rattle.replay.specs.ReferenceRun.{RunState, access_room, after_interval, all_delayed, at_limit, has_ended_at, have_halted, run_results, time_of, woven_interval};
+ghost use Rattle.bound_core.specs.TimedCore.{first_core};
+ghost use Rattle.bound_core.specs.NumberedCores.{timed_of};
+ghost use Rattle.replay.specs.ReferenceRun.{RunState, access_room, all_delayed, at_limit, has_ended_at, have_halted, run_results, woven_interval};
 ghost use Rattle.replay.specs.Limits.{cycle_limit};
-ghost use Rattle.replay.specs.Memory.{IsForMachine, is_alone, is_logged, shards_in};
+ghost use Rattle.replay.specs.Memory.{IsForMachine, is_alone, shards_in};
 ghost use Rattle.replay.specs.Recording.{IsRecordingOf, IsRecordingSoFar, is_on};
-ghost use Rattle.replay.specs.Replay.{IfIllegal};
-ghost use Rattle.bound_records.specs.CoreRuns.{AreNumbered, CanRunInterval, phase_of, IsNetOf};
+ghost use Rattle.bound_records.specs.CoreRuns.{AreNumbered, IsNetOf};
 ghost use Rattle.replay.specs.Simulation.{HasBound, HasFired, HasGoneOn, HasNextInterval, HasRoomForInterval, IsAtStart, IsBoundPhase, LeadsTo, StandsFor, cores_of};
-ghost use Rattle.replay.specs.Turns.{HaveTurned};
 
 use crate::alone::interval_alone;
 use crate::firing::fire_all;
 use crate::limits::{ACCESS_LIMIT, CYCLE_LIMIT};
-use crate::logged_port::LoggedPort;
 use crate::memory::Memory;
-use crate::turns::take_turns;
 use crate::weaving::{events_of, woven_of};
-use crate::{Final, Recording, ReplayFail};
+use crate::{Final, Recording};
 use bound_core::{BESIDE_CYCLES, BoundCore};
 use bound_phase::{PhaseBuffers, bound_in};
 use bound_records::OwnProgram;
@@ -44,9 +36,8 @@ use std::alloc::Global;
 use std::sync::Wait;
 use std::thread::Threads;
 use weave_chains::ChainBuffers;
-use weave_seq::weave_seq;
 use zs_host::Gate;
-use zs_num::{Cycle, Entries, Entry, NoMemory};
+use zs_num::{Cycle, Entries, NoMemory};
 
 /// A run between two intervals: its cores in order of their numbers, caches and memory, its
 /// components, and what was counted so far.
@@ -144,13 +135,11 @@ impl Simulation {
         requires net { IsNetOf machine.now net.now }
         requires end { end ≤ 10 * 2 ^ 30 }
         requires workers { (1 ≤ workers) × (workers ≤ 64) }
-        requires not_logged { is_logged self.memory ≡ false }
         requires room { HasRoomForInterval machine.now end self }
         requires recording { IsRecordingSoFar machine.now recording.old }
         requires goes_on { (s : RunState) × HasNextInterval machine.now end s self }
         ensures goes_on { IfOk result (λ r. (s : RunState) → HasNextInterval machine.now end s self → HasGoneOn machine.now program.now s r.1.items recording.old recording.new r.0) }
         ensures on { is_on recording.new ≡ is_on recording.old }
-        ensures not_logged { IfOk result (λ r. is_logged r.0.memory ≡ false) }
         ensures cores { IfOk result (λ r. All (λ number. number < machine.now.cores) r.1.items) }
         ensures few { IfOk result (λ r. vec_len r.1 < 2 ^ 32) }
     {
@@ -209,13 +198,11 @@ impl Simulation {
         requires end { end ≤ 10 * 2 ^ 30 }
         requires workers { (1 ≤ workers) × (workers ≤ 64) }
         requires shared { is_alone self.memory ≡ false }
-        requires not_logged { is_logged self.memory ≡ false }
         requires room { HasRoomForInterval machine.now end self }
         requires recording { IsRecordingSoFar machine.now recording.old }
         requires goes_on { (s : RunState) × HasNextInterval machine.now end s self }
         ensures goes_on { IfOk result (λ r. (s : RunState) → HasNextInterval machine.now end s self → HasGoneOn machine.now program.now s r.1.items recording.old recording.new r.0) }
         ensures on { is_on recording.new ≡ is_on recording.old }
-        ensures not_logged { IfOk result (λ r. is_logged r.0.memory ≡ false) }
         ensures cores { IfOk result (λ r. All (λ number. number < machine.now.cores) r.1.items) }
         ensures few { IfOk result (λ r. vec_len r.1 < 2 ^ 32) }
     {
@@ -241,41 +228,6 @@ impl Simulation {
         Ok((simulation, turns))
     }
 
-    /// Runs this interval, which ends at cycle `end`, 10 * 2^30 at most, under a list of turns, in
-    /// a run over a port. Answers `list`, whose memory the accesses took, or the first place of the
-    /// turns that is not legal.
-    pub fn interval_under(
-        &mut self,
-        alloc: Global,
-        machine: &Machine,
-        program: &DecodedProgram<'_>,
-        net: &Net,
-        end: Cycle,
-        interval: u32,
-        turns: &[u16],
-        list: Vec<Entry>,
-    ) -> Result<Vec<Entry>, ReplayFail>
-        requires machine { IsMachine machine.now }
-        requires net { IsNetOf machine.now net.now }
-        requires end { end ≤ 10 * 2 ^ 30 }
-        requires known { All (λ number. number < machine.now.cores) turns.now }
-        requires few { length turns.now < 2 ^ 32 }
-        requires room { HasRoomForInterval machine.now end self.old }
-        requires goes_on { (s : RunState) × HasNextInterval machine.now end s self.old }
-        requires logged { is_logged self.old.memory ≡ true }
-        ensures logged { OnOk result (is_logged self.new.memory ≡ true) }
-        ensures leads { OnOk result ((s : RunState) → HasNextInterval machine.now end s self.old → LeadsTo machine.now program.now s turns.now self.new) }
-        ensures illegal { IfErr result (λ fail. IfIllegal fail (λ at. (at.interval ≡ interval) × ((s : RunState) → HasNextInterval machine.now end s self.old → after_interval machine.now program.now s turns.now ≡ Err (record { interval = length s.intervals; place = at.place })))) }
-    {
-        bound_core::laws::shards_do_as_the_machine();
-        let entries = self.bound_under(alloc, machine, program, net, end, interval, turns, list)?;
-        let graph = events_of(alloc, machine, net, &entries, &self.comps)?;
-        let fired = weave_seq(alloc, &graph, &mut self.comps)?;
-        let mut recording = Recording::Off;
-        self.take_in(alloc, machine, &entries, graph, fired, &mut recording)?;
-        Ok(entries.into_list())
-    }
-
     /// The bound phase of an interval by several workers, which share the shards.
     fn bound_by<R: Threads + Wait + Sync, G: Gate>(
         self,
@@ -295,8 +247,6 @@ impl Simulation {
         requires workers { (1 ≤ workers) × (workers ≤ 64) }
         requires room { HasRoomForInterval machine.now end self }
         requires shared { is_alone self.memory ≡ false }
-        requires not_logged { is_logged self.memory ≡ false }
-        ensures not_logged { IfOk result (λ r. is_logged r.0.memory ≡ false) }
         ensures bounded { IfOk result (λ r. IsBoundPhase machine.now program.now end self (map (λ e. e.core) r.1) r.0 r.1) }
         ensures comps { IfOk result (λ r. r.0.comps ≡ self.comps) }
         ensures counters { IfOk result (λ r. r.0.counters ≡ self.counters) }
@@ -329,51 +279,6 @@ impl Simulation {
             }
             Err((NoMemory, _as_they_were)) => Err(NoMemory),
         }
-    }
-
-    /// The bound phase of this interval under a list of turns. Answers its accesses.
-    fn bound_under(
-        &mut self,
-        alloc: Global,
-        machine: &Machine,
-        program: &DecodedProgram<'_>,
-        net: &Net,
-        end: Cycle,
-        interval: u32,
-        turns: &[u16],
-        list: Vec<Entry>,
-    ) -> Result<Entries, ReplayFail>
-        requires machine { IsMachine machine.now }
-        requires net { IsNetOf machine.now net.now }
-        requires end { end ≤ 10 * 2 ^ 30 }
-        requires known { All (λ number. number < machine.now.cores) turns.now }
-        requires few { length turns.now < 2 ^ 32 }
-        requires room { HasRoomForInterval machine.now end self.old }
-        requires logged { is_logged self.old.memory ≡ true }
-        ensures logged { OnOk result (is_logged self.new.memory ≡ true) }
-        ensures bounded { IfOk result (IsBoundPhase machine.now program.now end self.old turns.now self.new) }
-        ensures illegal { IfErr result (λ fail. IfIllegal fail (λ at. (at.interval ≡ interval) × (bound_phase shards_serve (time_of machine.now) program.now end turns.now (begun_over_shards (cores_of self.old) (map restarted (shards_in self.old.memory))) ≡ Err at.place))) }
-        ensures comps { self.new.comps ≡ self.old.comps }
-        ensures counters { self.new.counters ≡ self.old.counters }
-    {
-        bound_core::laws::phases_are_histories();
-        access_log::laws::rising_stamps_are_distinct();
-        access_log::laws::stamps_rise();
-        let Memory::Logged(port) = &mut self.memory else {
-            unreachable!()
-        };
-        port.begin(access_room(machine) as usize, list)?;
-        run_turns(
-            machine,
-            program,
-            net,
-            end,
-            interval,
-            turns,
-            &mut self.cores,
-            port,
-        )?;
-        Ok(port.take_sorted(alloc))
     }
 
     /// The weave of an interval, after its bound phase: fires the events of its accesses by so many
@@ -487,52 +392,6 @@ fn first_cores(alloc: Global, machine: &Machine, image: &Image) -> Result<Vec<Bo
         cores.push(BoundCore::new(alloc, machine, image, number)?)?;
     }
     Ok(cores)
-}
-
-/// Runs the cores to the end of this interval under a list of turns, or answers the first place of
-/// the list that is not legal.
-fn run_turns(
-    machine: &Machine,
-    program: &DecodedProgram<'_>,
-    net: &Net,
-    end: Cycle,
-    interval: u32,
-    turns: &[u16],
-    cores: &mut [BoundCore],
-    port: &mut LoggedPort,
-) -> Result<(), ReplayFail>
-    requires machine { IsMachine machine.now }
-    requires net { IsNetOf machine.now net.now }
-    requires end { end ≤ 10 * 2 ^ 30 }
-    requires known { All (λ number. number < machine.now.cores) turns.now }
-    requires few { length turns.now < 2 ^ 32 }
-    requires count { length cores.old ≡ machine.now.cores }
-    requires ready { (i : ℕ) (c : NumberedCore) → slice_get cores.old i ≡ Some c → CanRunInterval machine.now end (base_of port.old.world) (size_of port.old.world) (l1i_of port.old.world) c.timed }
-    requires numbered { AreNumbered cores.old }
-    requires stamps { length port.old.world.stamps ≡ machine.now.cores }
-    requires none { port.old.entries ≡ [] }
-    requires room { access_room machine.now ≤ min (room_of port.old.world) port.old.room }
-    ensures turned { OnOk result (HaveTurned machine.now program.now end turns.now cores.old cores.new port.old port.new) }
-    ensures illegal { IfErr result (λ fail. IfIllegal fail (λ at. (at.interval ≡ interval) × (bound_phase shards_serve (time_of machine.now) program.now end turns.now (phase_of cores.old port.old) ≡ Err at.place))) }
-{
-    reserve_all(machine, cores)?;
-    match take_turns(program, net, end, turns, cores, port) {
-        Ok(()) => Ok(()),
-        Err(place) => Err(ReplayFail::Illegal { interval, place }),
-    }
-}
-
-/// Gives each core room on its console for what it can write in an interval.
-fn reserve_all(machine: &Machine, cores: &mut [BoundCore]) -> Result<(), NoMemory>
-    requires { IsMachine machine.now }
-    ensures timed { OnOk result (timed_of cores.new ≡ timed_of cores.old) }
-    ensures numbered { OnOk result (AreNumbered cores.old → AreNumbered cores.new) }
-    ensures spare { OnOk result ((i : ℕ) (c : NumberedCore) → slice_get cores.new i ≡ Some c → machine.now.interval + beside_cycles ≤ c.spare) }
-{
-    for number in 0..cores.len() {
-        cores[number].reserve(machine.interval)?;
-    }
-    Ok(())
 }
 
 /// Adds to the clock of each core the delay that stands at its number.

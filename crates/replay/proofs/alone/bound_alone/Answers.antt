@@ -2,15 +2,18 @@ use Rattle.std.proofs.Common.{◌≡◌, ℕ, List, length, map, Some, refl, sym
 use Rattle.std.specs.Prelude.{slice_get}
 use Rattle.std.specs.Vec.{with_items}
 use Rattle.std.proofs.lemmas.List.{with_items_is}
+use Rattle.zs_num.specs.declared.entry.Entry.{Entry}
 use Rattle.bound_core.specs.NumberedCores.{NumberedCore}
 use Rattle.bound_core.specs.ShardPort.{AreShardsOf, base_of, l1i_of, size_of}
 use Rattle.bound_core.specs.ShardWorld.{begun_world, restarted}
 use Rattle.bound_records.specs.CoreRuns.{CanRunInterval}
 use Rattle.bound_records.specs.Intervals.{HaveRun}
+use Rattle.bound_records.specs.Recorders.{entries_of}
 use Rattle.replay.specs.declared.memory.Memory.{Memory}
 use Rattle.replay.specs.declared.memory.Memory.TheVariants as memory
 use Rattle.replay.specs.declared.simulation.Simulation.{Simulation}
 use Rattle.replay.specs.Memory.{IsForMachine, shards_in}
+use Rattle.replay.specs.Records.{accesses_in}
 use Rattle.replay.specs.ReferenceRun.{time_of}
 use Rattle.replay.proofs.BoundPhase.{OrderLaws}
 use Rattle.replay.proofs.RecordedPhase.{recorded_phase}
@@ -54,7 +57,9 @@ returns g c =
     let cores = c.deref_mut.result.now in
     let after = c.run.new.cores in
     let last = c.in_ok-recorder.recorder in
-    let h : HaveRun machine image end cores after c.in-Alone.recorder last = c.in_ok-recorder.ensures.run in
+    let entries : List Entry = entries_of last in
+    let turns : List ℕ = map (λ (e : Entry). e.core) entries in
+    let h : HaveRun machine image end turns entries cores after c.in-Alone.recorder last = c.in_ok-recorder.ensures.run in
     let long : length after ≡ p.cores.len = omega (arith, c.run.auto.cores, ap length c.deref_mut.ensures.value, p.cores.ok.0) in
     let laws : OrderLaws (time_of machine) image end = record {
       histories = c.phases_are_histories.ensures (time_of machine) image end;
@@ -68,12 +73,17 @@ returns g c =
     let q : Simulation = record { cores = with_items p.cores after; memory = memory.Alone last; comps = p.comps; counters = p.counters } in
     record {
       recorded = record {
-        recorder = last;
-        alone = refl;
-        bounded = recorded_phase machine image end p q cores after c.in-Alone.recorder last (sym c.deref_mut.ensures.value) c.in-Alone.is (with_items_is p.cores after long) refl h
-            c.requires.room.shards.some laws;
-        recorded = record { many = h.recorder.lists; own = h.own; cores = h.known; starts = h.starts; few = h.few; in_turn = h.in_turn; kept = c.in_ok-recorder.ensures.kept };
-        comps = refl;
-        counters = refl;
+        turns = map (λ (e : Entry). e.core) (accesses_in last);
+        has = record {
+          recorder = last;
+          alone = refl;
+          bounded = recorded_phase machine image end turns entries p q cores after c.in-Alone.recorder last (sym c.deref_mut.ensures.value) c.in-Alone.is (with_items_is p.cores after long) refl h
+              c.requires.room.shards.some laws;
+          recorded = record { many = h.recorder.lists; own = h.own; cores = h.known; starts = h.starts; few = h.few; kept = c.in_ok-recorder.ensures.kept };
+          comps = refl;
+          counters = refl;
+        };
+        in_order = refl;
+        in_turn = record { stamped = h.in_turn; named = tt };
       };
     }

@@ -1,4 +1,3 @@
-use Rattle.replay.proofs.GoneOn.{alone_not_logged}
 use Rattle.replay.proofs.alone.interval_alone.Goals as goal
 
 pub weave_alone-requires-clause-recorded : goal.weave_alone-requires-clause-recorded
@@ -8,6 +7,3 @@ weave_alone-requires-clause-recorded g c κs within =
 pub returns-clause-goes_on : goal.returns-clause-goes_on
 returns-clause-goes_on g c = λ s on.
     c.in_ok-turns.ensures.goes_on c.args.program.now c.args.end c.args.simulation s on c.in_ok-simulation.ensures.recorded
-
-pub returns-clause-not_logged : goal.returns-clause-not_logged
-returns-clause-not_logged g c = alone_not_logged c.weave_alone.new.simulation.memory c.in_ok-turns.ensures.alone

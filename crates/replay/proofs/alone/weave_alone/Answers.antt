@@ -1,107 +1,98 @@
-use Rattle.std.proofs.Common.{◌≡◌, ℕ, ◌*◌, ◌^◌, ◌<◌, ◌≤◌, List, [], ◌∷◌, ◌++◌, length, map, All, refl, sym, subst, ap, ◌∙◌, arith}
+use Rattle.std.proofs.Common.{◌≡◌, ℕ, ◌^◌, ◌<◌, ◌≤◌, List, [], ◌∷◌, ◌++◌, length, map, All, refl, sym, subst, ap, ◌∙◌, arith}
 use Rattle.std.specs.Vec.{with_items}
 use Rattle.std.proofs.lemmas.List.{length-map, with_items_is}
 use Rattle.std.proofs.lemmas.List.Elements.{All-map}
 use Rattle.zs_num.specs.declared.entry.Entry.{Entry}
-use Rattle.elf_load.specs.MemoryImage.{MemoryImage}
-use Rattle.machine_desc.specs.declared.machine.Machine.{Machine}
 use Rattle.component.specs.declared.comp.Comp.{Comp}
-use Rattle.component.specs.ComponentStep.{comp_step, free_of}
-use Rattle.component.specs.Components.{AreComponents}
-use Rattle.event_graph.specs.OneListWeave.{comps_after}
-use Rattle.stats.specs.Counts.{Counts, Interval}
-use Rattle.stats.specs.CountsFit.{CountsFit}
-use Rattle.stats.specs.Added.{added}
-use Rattle.stats.specs.Laws.{WasRun}
+use Rattle.stats.specs.Counts.{Interval}
 use Rattle.bound_core.specs.NumberedCores.{NumberedCore, timed_of}
 use Rattle.bound_records.specs.CoreRuns.{AreNumbered}
-use Rattle.bound_records.specs.Recorders.{RecorderState}
+use Rattle.access_record.specs.declared.turns.Turns.TheVariants.{CoreByCore}
+use Rattle.bound_records.specs.Recorders.{AreStampedInTurn, AreTakenIn, RecorderState, entries_of}
 use Rattle.replay.specs.declared.simulation.Simulation.{Simulation}
-use Rattle.replay.specs.IntervalWeave.{IsSoundWeave}
-use Rattle.replay.specs.Memory.{is_alone}
 use Rattle.replay.specs.Recording.{IsRecordingOf}
-use Rattle.replay.specs.Records.{FitsIn, IsRecorded, accesses_in, recorded_interval}
-use Rattle.replay.specs.ReferenceRun.{RunState, access_room, all_delayed, time_of, woven_interval}
-use Rattle.replay.specs.Simulation.{HasGoneOn, HasNextInterval, HasRecorded, HasRoomForInterval, LeadsTo, cores_of}
+use Rattle.replay.specs.Records.{accesses_in, recorded_interval}
+use Rattle.replay.specs.ReferenceRun.{all_delayed, time_of, woven_interval}
+use Rattle.replay.specs.Simulation.{cores_of}
 use Rattle.replay.proofs.AloneFacts as F
 use Rattle.replay.proofs.Cores.{each_clock}
-use Rattle.replay.proofs.GoneOn.{gone_on, same_recorder, small_room, woven_entries}
-use Rattle.replay.proofs.NextInterval.{Laws, leads_on}
+use Rattle.replay.proofs.GoneOn.{gone_on, same_recorder, small_room}
+use Rattle.replay.proofs.NextInterval.{Laws}
 use Rattle.replay.proofs.alone.weave_alone.Goals as goal
 
 pub recorded_cores-requires : goal.recorded_cores-requires
 recorded_cores-requires g c =
-    let h = c.requires.recorded.5 in
-    (F.is_recorded c.args.machine.now c.requires.recorded.0 c.requires.recorded.1 c.requires.recorded.2 c.args.simulation.now h c.in-Alone.recorder c.in-Alone.is).in_turn
+    let h = c.requires.recorded.5.has in
+    let same = same_recorder c.args.simulation.now.memory h.recorder c.in-Alone.recorder h.alone c.in-Alone.is in
+    subst (λ (r : RecorderState). AreStampedInTurn (entries_of r) r) same c.requires.recorded.5.in_turn.stamped
+
+pub weave_recorded-requires-clause-turns : goal.weave_recorded-requires-clause-turns
+weave_recorded-requires-clause-turns g c κs within =
+    let h = c.requires.recorded.5.has in
+    subst (AreTakenIn CoreByCore) (same_recorder c.args.simulation.now.memory h.recorder c.in-Alone.recorder h.alone c.in-Alone.is) c.requires.recorded.5.in_turn
 
 pub weave_recorded-requires-clause-recorded : goal.weave_recorded-requires-clause-recorded
 weave_recorded-requires-clause-recorded g c κs within =
-    let h = c.requires.recorded.5 in
-    F.is_recorded c.args.machine.now c.requires.recorded.0 c.requires.recorded.1 c.requires.recorded.2 c.args.simulation.now h c.in-Alone.recorder c.in-Alone.is
+    let h = c.requires.recorded.5.has in
+    F.is_recorded c.args.machine.now c.requires.recorded.0 c.requires.recorded.1 c.requires.recorded.2 c.requires.recorded.5.turns c.args.simulation.now h c.in-Alone.recorder c.in-Alone.is
 
 pub weave_recorded-requires-clause-components : goal.weave_recorded-requires-clause-components
 weave_recorded-requires-clause-components g c κs within =
-    F.components c.args.machine.now c.requires.recorded.0 c.requires.recorded.1 c.requires.recorded.2 c.args.simulation.now c.requires.recorded.3 c.requires.recorded.4 c.requires.recorded.5
+    F.components c.args.machine.now c.requires.recorded.0 c.requires.recorded.1 c.requires.recorded.2 c.requires.recorded.5.turns c.args.simulation.now c.requires.recorded.3 c.requires.recorded.4 c.requires.recorded.5.has
 
 pub weave_recorded-requires-clause-free : goal.weave_recorded-requires-clause-free
 weave_recorded-requires-clause-free g c κs within =
-    F.free c.args.machine.now c.requires.recorded.0 c.requires.recorded.1 c.requires.recorded.2 c.args.simulation.now c.requires.recorded.3 c.requires.recorded.4 c.requires.recorded.5
+    F.free c.args.machine.now c.requires.recorded.0 c.requires.recorded.1 c.requires.recorded.2 c.requires.recorded.5.turns c.args.simulation.now c.requires.recorded.3 c.requires.recorded.4 c.requires.recorded.5.has
 
 pub weave_recorded-requires-clause-fits : goal.weave_recorded-requires-clause-fits
 weave_recorded-requires-clause-fits g c κs within =
-    F.fits_in c.args.machine.now c.requires.recorded.0 c.requires.recorded.1 c.requires.recorded.2 c.args.simulation.now c.requires.recorded.3 c.requires.recorded.4 c.requires.recorded.5
+    F.fits_in c.args.machine.now c.requires.recorded.0 c.requires.recorded.1 c.requires.recorded.2 c.requires.recorded.5.turns c.args.simulation.now c.requires.recorded.3 c.requires.recorded.4 c.requires.recorded.5.has
     c.in-Alone.recorder c.in-Alone.is c.requires.machine c.intervals_are_woven.ensures c.args.net.now c.requires.net c.counters_are_sums.ensures c.sums_fit.ensures
 
 pub delay_all-requires-clause-clocks : goal.delay_all-requires-clause-clocks
 delay_all-requires-clause-clocks g c =
     subst (λ (cores : List NumberedCore). All (λ x. x.timed.clock ≤ 2 ^ 57) cores) (sym c.deref_mut.ensures.value)
-    (each_clock (2 ^ 57) c.args.simulation.now.cores.items c.requires.recorded.5.bounded.clocks)
+    (each_clock (2 ^ 57) c.args.simulation.now.cores.items c.requires.recorded.5.has.bounded.clocks)
 
 pub delay_all-requires-clause-count : goal.delay_all-requires-clause-count
 delay_all-requires-clause-count g c =
-    let h = c.requires.recorded.5 in
-    let sound = F.sound c.args.machine.now c.requires.recorded.0 c.requires.recorded.1 c.requires.recorded.2 c.args.simulation.now c.requires.recorded.3 c.requires.recorded.4 h
+    let h = c.requires.recorded.5.has in
+    let sound = F.sound c.args.machine.now c.requires.recorded.0 c.requires.recorded.1 c.requires.recorded.2 c.requires.recorded.5.turns c.args.simulation.now c.requires.recorded.3 c.requires.recorded.4 h
     c.in-Alone.recorder c.in-Alone.is c.requires.machine c.intervals_are_woven.ensures c.args.net.now c.requires.net in
     ap length c.as_slice.ensures ∙ ap length c.in_ok-delays.ensures.taken.delays_are ∙ sound.delays ∙ sym h.bounded.count ∙ sym (ap length c.deref_mut.ensures.value)
 
 pub delay_all-requires-clause-delays : goal.delay_all-requires-clause-delays
 delay_all-requires-clause-delays g c =
-    let h = c.requires.recorded.5 in
-    let sound = F.sound c.args.machine.now c.requires.recorded.0 c.requires.recorded.1 c.requires.recorded.2 c.args.simulation.now c.requires.recorded.3 c.requires.recorded.4 h
+    let h = c.requires.recorded.5.has in
+    let sound = F.sound c.args.machine.now c.requires.recorded.0 c.requires.recorded.1 c.requires.recorded.2 c.requires.recorded.5.turns c.args.simulation.now c.requires.recorded.3 c.requires.recorded.4 h
     c.in-Alone.recorder c.in-Alone.is c.requires.machine c.intervals_are_woven.ensures c.args.net.now c.requires.net in
     subst (All (λ (d : ℕ). d ≤ 2 ^ 62)) (sym (c.as_slice.ensures ∙ c.in_ok-delays.ensures.taken.delays_are)) sound.delays_small
 
-pub returns-clause-alone : goal.returns-clause-alone
-returns-clause-alone g c = ap is_alone c.in-Alone.is
-
 pub returns-clause-cores : goal.returns-clause-cores
 returns-clause-cores g c =
-    let h = c.requires.recorded.5 in
+    let h = c.requires.recorded.5.has in
     let same = same_recorder c.args.simulation.now.memory h.recorder c.in-Alone.recorder h.alone c.in-Alone.is in
     let turns = c.in_ok-turns.ensures ∙ ap (λ (r : RecorderState). map (λ (e : Entry). e.core) (accesses_in r)) (sym same) in
     subst (All (λ (n : ℕ). n < c.args.machine.now.cores)) (sym turns) (All-map (λ (n : ℕ). n < c.args.machine.now.cores) (λ (e : Entry). e.core) (accesses_in h.recorder) h.bounded.cores)
 
 pub returns-clause-few : goal.returns-clause-few
 returns-clause-few g c =
-    let h = c.requires.recorded.5 in
+    let h = c.requires.recorded.5.has in
     let same = same_recorder c.args.simulation.now.memory h.recorder c.in-Alone.recorder h.alone c.in-Alone.is in
     let turns = c.in_ok-turns.ensures ∙ ap (λ (r : RecorderState). map (λ (e : Entry). e.core) (accesses_in r)) (sym same) in
     omega (arith, c.in_ok-turns.turns.ok.0, ap length turns, length-map (accesses_in h.recorder) (λ (e : Entry). e.core), h.bounded.few, small_room c.args.machine.now c.requires.machine)
 
 pub returns-clause-goes_on : goal.returns-clause-goes_on
-returns-clause-goes_on g c = λ image end before s goes h.
+returns-clause-goes_on g c = λ image end before s goes recorded.
     let machine = c.args.machine.now in
     let q = c.args.simulation.now in
     let r = c.in-Alone.recorder in
-    let same = same_recorder q.memory h.recorder r h.alone c.in-Alone.is in
+    let h = recorded.has in
+    let turns : List ℕ = recorded.turns in
     let entries : List Entry = accesses_in h.recorder in
+    let order : accesses_in r ≡ entries = ap accesses_in (sym (same_recorder q.memory h.recorder r h.alone c.in-Alone.is)) in
     let taken = c.in_ok-delays.ensures.taken in
-    let sound = F.sound machine image end before q s goes h r c.in-Alone.is c.requires.machine c.intervals_are_woven.ensures c.args.net.now c.requires.net in
     let i : Interval = recorded_interval machine q.comps r in
-    let from : q.comps ≡ s.comps = h.comps ∙ goes.come.comps in
-    let order : accesses_in r ≡ entries = ap accesses_in (sym same) in
-    let is : i ≡ woven_interval machine s.comps entries = ap (λ (comps : List Comp). woven_interval machine comps (accesses_in r)) from ∙ ap (woven_interval machine s.comps) order in
-    let are : AreComponents machine (comps_after comp_step i.events s.comps) = subst (λ (comps : List Comp). AreComponents machine (comps_after comp_step i.events comps)) from sound.stay in
     let laws : Laws (time_of machine) image end = record {
       alike = c.shards_do_as_the_machine.ensures (time_of machine) image end;
       histories = c.phases_are_histories.ensures (time_of machine) image end;
@@ -118,13 +109,11 @@ returns-clause-goes_on g c = λ image end before s goes h.
     let long : length c.delay_all.new.cores ≡ q.cores.len = omega (arith, c.delay_all.auto.cores, ap length c.deref_mut.ensures.value, q.cores.ok.0) in
     let written = with_items_is q.cores c.delay_all.new.cores long in
     let p : Simulation = record { cores = with_items q.cores c.delay_all.new.cores; memory = q.memory; comps = c.weave_recorded.new.comps; counters = c.weave_recorded.new.counters } in
-    let turns : List ℕ = map (λ (e : Entry). e.core) entries in
-    let found = leads_on machine c.requires.machine image end s before q goes turns entries h.bounded laws i is (woven_entries machine q.comps (accesses_in r) ∙ order)
-    (sound.timely, sound.delays_small) (F.few_events machine q.comps r sound) are
-    p (ap timed_of written ∙ waited) (subst AreNumbered (sym written) numbered) refl
-    (taken.comps_are ∙ ap (comps_after comp_step i.events) from)
-    (taken.counts_are ∙ ap (λ (counts : Counts). added counts i p.comps) h.counters)
+    let found = F.led machine image end before turns q s goes h r c.in-Alone.is c.requires.machine c.intervals_are_woven.ensures c.args.net.now c.requires.net laws
+    p (ap timed_of written ∙ waited) (subst AreNumbered (sym written) numbered) refl taken.comps_are taken.counts_are
     in
+    let from : q.comps ≡ s.comps = h.comps ∙ goes.come.comps in
+    let is : i ≡ woven_interval machine s.comps entries = ap (λ (comps : List Comp). woven_interval machine comps (accesses_in r)) from ∙ ap (woven_interval machine s.comps) order in
     gone_on machine image s c.in_ok-turns.turns.items turns entries c.args.recording.now c.weave_recorded.new.recording p
-    (c.in_ok-turns.ensures ∙ ap (map (λ (e : Entry). e.core)) order) refl found.0 found.1
+    (c.in_ok-turns.ensures ∙ ap (map (λ (e : Entry). e.core)) order ∙ sym recorded.in_order) recorded.in_order found.0 found.1
     (λ was. subst (λ (j : Interval). IsRecordingOf machine (s.intervals ++ j ∷ []) c.weave_recorded.new.recording) is (c.in_ok-delays.ensures.recorded s.intervals was))

@@ -1,21 +1,14 @@
-use Rattle.std.proofs.Common.{◌≡◌, ℕ, List, length, sym, ◌∙◌, ap, subst}
-use Rattle.std.specs.Prelude.{IfNone, IfSome}
+use Rattle.std.proofs.Common.{List, length, sym, ◌∙◌, ap, subst, arith}
 use Rattle.std.proofs.lemmas.List.{length-map}
-use Rattle.zs_num.specs.declared.entry.Entry.{Entry}
 use Rattle.component.specs.declared.comp.Comp.{Comp}
-use Rattle.component.specs.ComponentStep.{comp_step}
 use Rattle.component.specs.Components.{AreComponents}
-use Rattle.event_graph.specs.OneListWeave.{comps_after}
-use Rattle.noc_mesh.specs.NetTiming.{net_pieces}
 use Rattle.stats.specs.Added.{added}
 use Rattle.stats.specs.Counts.{Interval}
 use Rattle.stats.specs.CountsFit.{CountsFit}
-use Rattle.weave_chains.specs.Listed.{one_after_other}
-use Rattle.weave_chains.specs.Woven.{AreOrdered, IsWoven}
-use Rattle.weave_chains.specs.declared.weave.Woven.{Woven}
 use Rattle.bound_records.specs.Counted.{count_of}
-use Rattle.bound_records.specs.Recorders.{counts_in, entries_of, kept_lists, recorded_kept}
+use Rattle.bound_records.specs.Recorders.{counts_in, entries_of}
 use Rattle.replay.specs.Records.{recorded_interval}
+use Rattle.replay.proofs.GoneOn.{small_room}
 use Rattle.replay.proofs.RecordedChains as F
 use Rattle.replay.proofs.RecordedWeave as W
 use Rattle.replay.proofs.records.weave_by_cores.Goals as goal
@@ -37,7 +30,7 @@ weave_chains-requires-clause-small g c κs within =
     F.small_steps c.args.machine.now c.args.recorder.now c.requires.recorded c.args.net.now c.requires.net c.requires.machine c.args.comps.now c.requires.components c.requires.free c.intervals_are_woven.ensures
 
 pub access_count-requires : goal.access_count-requires
-access_count-requires g c = c.requires.recorded.in_turn.few
+access_count-requires g c = omega (arith, c.requires.recorded.few, small_room c.args.machine.now c.requires.machine)
 
 pub add_counts-requires-clause-cores : goal.add_counts-requires-clause-cores
 add_counts-requires-clause-cores g c =
@@ -80,7 +73,7 @@ add_counts-requires-clause-fits g c =
     let wove = F.wove machine r c.requires.recorded c.args.net.now c.requires.net comps c.weave_chains.new.comps c.in_ok-found.found c.in-Some.woven c.in-Some.is c.in_ok-found.ensures.woven in
     let i : Interval = recorded_interval machine comps r in (
       i,
-      W.counted_so i c.counts.result.now (counts_in r) c.from.result (length (entries_of r)) c.counts.ensures (c.from.ensures ∙ c.access_count.ensures) (W.access_counts machine r c.requires.recorded c.recorded_order_keeps_the_stamps.ensures comps),
+      W.counted_so i c.counts.result.now (counts_in r) c.from.result (length (entries_of r)) c.counts.ensures (c.from.ensures ∙ c.access_count.ensures) (W.access_counts machine r c.requires.recorded comps),
       sym (W.woven_delays machine r c.requires.recorded c.args.net.now c.requires.net comps c.weave_chains.new.comps c.in-Some.woven wove),
       W.events_counted_so i c.deref.result.now c.in-Some.woven.counts.items c.from-2.result c.in-Some.woven.events c.deref.ensures.value c.from-2.ensures (W.event_counts machine r c.requires.recorded c.args.net.now c.requires.net comps c.weave_chains.new.comps c.in-Some.woven wove),
       subst (λ (after : List Comp). CountsFit (added c.args.counters.now i after)) (sym (W.woven_comps machine r c.requires.recorded c.args.net.now c.requires.net comps c.weave_chains.new.comps c.in-Some.woven wove)) c.requires.fits.fits,
@@ -97,7 +90,7 @@ returns-clause-taken g c =
       delays_are = W.woven_delays machine r c.requires.recorded c.args.net.now c.requires.net comps c.weave_chains.new.comps c.in-Some.woven wove;
       comps_are = W.woven_comps machine r c.requires.recorded c.args.net.now c.requires.net comps c.weave_chains.new.comps c.in-Some.woven wove;
       counts_are = c.add_counts.ensures i
-          (W.counted_so i c.counts.result.now (counts_in r) c.from.result (length (entries_of r)) c.counts.ensures (c.from.ensures ∙ c.access_count.ensures) (W.access_counts machine r c.requires.recorded c.recorded_order_keeps_the_stamps.ensures comps))
+          (W.counted_so i c.counts.result.now (counts_in r) c.from.result (length (entries_of r)) c.counts.ensures (c.from.ensures ∙ c.access_count.ensures) (W.access_counts machine r c.requires.recorded comps))
           (sym (W.woven_delays machine r c.requires.recorded c.args.net.now c.requires.net comps c.weave_chains.new.comps c.in-Some.woven wove))
           (W.events_counted_so i c.deref.result.now c.in-Some.woven.counts.items c.from-2.result c.in-Some.woven.events c.deref.ensures.value c.from-2.ensures (W.event_counts machine r c.requires.recorded c.args.net.now c.requires.net comps c.weave_chains.new.comps c.in-Some.woven wove));
     }

@@ -31,7 +31,7 @@ loop-alloc-init c =
       small = omega arith;
       within = omega arith;
       accesses = omega (arith, accesses);
-      logged = c.requires.logged;
+      alone = c.requires.alone;
     }
 
 pub interval_under-requires-clause-room : goal.interval_under-requires-clause-room
@@ -97,7 +97,7 @@ loop-alloc-preserved c =
     let lists = c.args.schedule.now.lists in
     let k = c.loop-alloc.k in
     let p = c.loop-alloc.simulation in
-    let q = c.interval_under.new.self in
+    let q = c.in_ok-simulation.simulation in
     let turns : List ℕ = c.list-turns.result.now in
     let there : slice_get lists k ≡ Some turns = c.list-turns.ensures in
     let within : k < length lists = slice_get_within lists k turns there in
@@ -107,7 +107,7 @@ loop-alloc-preserved c =
     let long : length (take k lists) ≡ k = length-take-le k lists was.count in
     let below = below_limit machine image (take k lists) p was.run k c.loop-alloc.end long was.end on was.within in
     let g = goes machine image (take k lists) p was.run k c.loop-alloc.end long was.end on in
-    let leads : LeadsTo machine image was.run.state turns q = c.in_ok-list.ensures.leads was.run.state g in
+    let leads : LeadsTo machine image was.run.state turns q = c.in_ok-simulation.ensures.leads was.run.state g in
     let more : take k lists ++ turns ∷ [] ≡ take (k + 1) lists =
     ap (λ (ns : List ℕ). take k lists ++ ns ∷ []) (sym is) ∙ sym (take_more lists k turns within)
     in
@@ -121,7 +121,7 @@ loop-alloc-preserved c =
       small = omega (arith, was.small, c.requires.machine.interval);
       within = omega (arith, below);
       accesses = omega (arith, accesses, leads.come.counted.accesses);
-      logged = c.in_ok-list.ensures.logged;
+      alone = c.in_ok-simulation.ensures.alone;
     }
 
 -- the schedule ends, and the run goes on
@@ -145,8 +145,8 @@ returns-then-k-lists-clause-gives c =
     }
 
 -- a place of a list is not legal
-pub returns-in_err-list-clause-gives : goal.returns-in_err-list-clause-gives
-returns-in_err-list-clause-gives c =
+pub returns-in_err-simulation-clause-gives : goal.returns-in_err-simulation-clause-gives
+returns-in_err-simulation-clause-gives c =
     let was = c.loop-alloc.invariant in
     let machine = c.args.machine.now in
     let image = c.args.program.now in
@@ -178,7 +178,7 @@ returns-in_err-list-clause-gives c =
       gives = ap (reference_run machine image was.run.comps) (sym all) ∙ stops_at machine image (take k lists) turns rest p was.run g.on at stops;
     }
     in
-    replay_failed machine image lists _ c.from_residual.result c.from_residual.ensures.1 (of_place _ Place (IsIllegalAt machine image lists) found c.in_err-list.ensures.illegal)
+    replay_failed machine image lists _ c.from_residual.result c.from_residual.ensures.1 (of_place _ Place (IsIllegalAt machine image lists) found c.in_err-simulation.ensures.illegal)
 
 -- the run has ended, and the schedule goes on
 pub returns-then-k-lists-2-clause-gives : goal.returns-then-k-lists-2-clause-gives

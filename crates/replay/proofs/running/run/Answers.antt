@@ -1,7 +1,6 @@
-use Rattle.std.proofs.Common.{ap, sym, subst, ◌∙◌}
+use Rattle.std.proofs.Common.{sym, subst}
 use Rattle.std.specs.Prelude.{IfOk}
 use Rattle.elf_load.specs.MemoryImage.{MemoryImage}
-use Rattle.replay.specs.Memory.{is_logged}
 use Rattle.replay.specs.Recording.{IsRecordedRun}
 use Rattle.replay.specs.ReferenceRun.{IsKeptInOrder, IsRunOf}
 use Rattle.replay.specs.Simulation.{IsAtStart}
@@ -35,9 +34,6 @@ returns-in_err-simulation-clause-in_order g c =
 pub run_on-requires-clause-starts : goal.run_on-requires-clause-starts
 run_on-requires-clause-starts g c κs within =
     subst (λ (i : MemoryImage). IsAtStart c.args.machine.now i c.in_ok-simulation.simulation) (sym c.in_ok-program.ensures) c.in_ok-simulation.ensures.starts
-
-pub run_on-requires-clause-not_logged : goal.run_on-requires-clause-not_logged
-run_on-requires-clause-not_logged g c κs within = ap is_logged c.in_ok-simulation.ensures.memory ∙ c.in_ok-memory.ensures.not_logged
 
 pub returns-clause-ok : goal.returns-clause-ok
 returns-clause-ok g c =

@@ -1,10 +1,7 @@
-use Rattle.std.proofs.Common.{◌≡◌, ℕ, ◌+◌, ◌-◌, ◌^◌, ◌<◌, List, ◌++◌, ◌∷◌, [], length, map, Ok, sym, ◌∙◌, ap, refl, subst, arith, rules, All, true, false}
+use Rattle.std.proofs.Common.{◌≡◌, ℕ, ◌+◌, ◌-◌, ◌^◌, ◌<◌, List, ◌++◌, ◌∷◌, [], length, Ok, sym, ◌∙◌, ap, refl, subst, arith, rules, All, true, false}
 use Rattle.std.proofs.lemmas.List.{length-append}
-use Rattle.zs_num.specs.declared.entry.Entry.{Entry}
 use Rattle.access_log.specs.Schedule.{ScheduleState}
-use Rattle.stats.specs.Counts.{Interval}
-use Rattle.replay.specs.Recording.{IsRecordingOf}
-use Rattle.replay.specs.ReferenceRun.{IsKeptInOrder, after_intervals, first_state, has_ended, woven_interval}
+use Rattle.replay.specs.ReferenceRun.{IsKeptInOrder, after_intervals, first_state, has_ended}
 use Rattle.replay.specs.Simulation.{LeadsTo}
 use Rattle.replay.proofs.NextInterval.{has_room}
 use Rattle.replay.proofs.RunEnds.{counted_results, numbered_results}
@@ -31,7 +28,6 @@ loop-alloc-init g c =
         in_order = c.requires.empty;
       };
       net = c.of-net.ensures;
-      not_logged = c.requires.not_logged;
       count = none;
       end = omega arith;
       small = omega arith;
@@ -148,7 +144,6 @@ loop-alloc-preserved g c =
     record {
       ran = ran_so machine image (lists ++ turns ∷ []) c.push.new.self.lists q (sym added) ran;
       net = was.net;
-      not_logged = c.in_ok-next.ensures.not_logged;
       count = omega (arith, ap length added, length-append lists (turns ∷ []), was.count);
       end = omega (arith, was.end);
       small = omega (arith, was.small, c.requires.machine.interval);

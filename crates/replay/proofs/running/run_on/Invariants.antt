@@ -1,7 +1,6 @@
 -- the run has come to where the intervals of the schedule lead, which is kept in order
-use Rattle.std.proofs.Common.{◌≡◌, ◌≤◌, ◌-◌, ◌*◌, ◌^◌, false, length}
+use Rattle.std.proofs.Common.{◌≡◌, ◌≤◌, ◌-◌, ◌*◌, ◌^◌, length}
 use Rattle.bound_records.specs.CoreRuns.{IsNetOf}
-use Rattle.replay.specs.Memory.{is_logged}
 use Rattle.replay.specs.Recording.{IsRecordingOf, is_on}
 use Rattle.replay.proofs.RunSoFar.{HasRunInOrder}
 use Rattle.replay.proofs.running.run_on.Given as goal
@@ -10,7 +9,6 @@ abbrev pub invariant-loop-alloc : goal.invariant-loop-alloc
 invariant-loop-alloc g l = record {
   ran : HasRunInOrder l.machine l.program l.schedule.lists l.simulation;
   net : IsNetOf l.machine l.net;
-  not_logged : is_logged l.simulation.memory ≡ false;
   count : length l.schedule.lists ≡ l.k;
   end : l.end ≡ l.k * l.machine.interval;
   small : l.end ≤ 10000 * l.k;

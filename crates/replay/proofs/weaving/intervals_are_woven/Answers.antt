@@ -1,5 +1,4 @@
-use Rattle.std.proofs.Common.{◌≡◌, ℕ, ◌*◌, ◌^◌, ◌<◌, ◌≤◌, List, All, length, map, refl, subst}
-use Rattle.machine_desc.specs.Components.{component_count}
+use Rattle.std.proofs.Common.{ℕ, ◌*◌, ◌^◌, ◌<◌, ◌≤◌, List, All, length, map, refl, subst}
 use Rattle.component.specs.ComponentStep.{comp_step}
 use Rattle.component.specs.Serving.{comp_latency, comp_serves}
 use Rattle.event_graph.specs.declared.event.Event.{Event}

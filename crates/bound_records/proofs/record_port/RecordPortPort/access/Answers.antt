@@ -9,8 +9,8 @@ use Rattle.bound_records.proofs.record_port.RecordPortPort.access.Goals as goal
 pub invariant_of-self : goal.invariant_of-self
 invariant_of-self c =
     let port = c.self.inside.port in
-    let log = c.put.ensures.log in
-    let records = c.put.ensures.records in
+    let log = c.keep.ensures.log in
+    let records = c.keep.ensures.records in
     let access = c.access-entry.ensures in
     record {
       log_core = ap (λ (l : BankLogState). l.core) log ∙ (c.self.invariant.log_core ∙ sym access.same_core);
@@ -23,5 +23,5 @@ invariant_of-self c =
       kept_base = refl;
       kept_room = ap (λ (k : RecordLogState). k.room) records ∙ (c.self.invariant.kept_room ∙ sym (ap (λ (l : BankLogState). l.room) log));
       kept_entries = ap (λ (k : RecordLogState). k.entries) records ∙ sym (ap (λ (l : BankLogState). beyond_hits l.entries) log);
-      count_is = c.put.ensures.count ∙ sym (ap (λ (l : BankLogState). count_of l.entries) log);
+      count_is = c.keep.ensures.count ∙ sym (ap (λ (l : BankLogState). count_of l.entries) log);
     }

@@ -7,7 +7,7 @@ use Rattle.replay.specs.declared.simulation.Simulation.{Simulation}
 use Rattle.replay.specs.Memory.{shards_in}
 use Rattle.replay.specs.ReferenceRun.{time_of}
 use Rattle.replay.proofs.ByWorkers.{bounded, can_bound}
-use Rattle.replay.proofs.PortTurns.{same_times}
+use Rattle.replay.proofs.Times.{same_times}
 use Rattle.replay.proofs.simulation.Simulation.bound_by.Goals as goal
 
 pub bound_in-requires-clause-can : goal.bound_in-requires-clause-can

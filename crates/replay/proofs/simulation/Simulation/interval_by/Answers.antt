@@ -1,8 +1,7 @@
-use Rattle.std.proofs.Common.{◌≡◌, ℕ, ◌^◌, ◌<◌, ◌≤◌, List, All, length, map, refl, sym, subst, ap, ◌∙◌, arith}
+use Rattle.std.proofs.Common.{ℕ, ◌<◌, List, All, length, map, refl, sym, subst, ap, arith}
 use Rattle.std.proofs.lemmas.List.{length-map}
 use Rattle.std.proofs.lemmas.List.Elements.{All-map}
 use Rattle.zs_num.specs.declared.entry.Entry.{Entry}
-use Rattle.replay.specs.Memory.{is_logged}
 use Rattle.replay.specs.Simulation.{HasBound}
 use Rattle.replay.proofs.GoneOn.{gone_on, small_room}
 use Rattle.replay.proofs.simulation.Simulation.interval_by.Goals as goal
@@ -29,9 +28,6 @@ returns-clause-goes_on g c = λ s on.
     gone_on c.args.machine.now c.args.program.now s c.in_ok-turns.turns.items turns entries c.args.recording.now c.weave.new.recording c.weave.new.self
     c.in_ok-turns.ensures refl found.0 found.1
     (λ was. c.in_ok-weave.ensures.recorded c.args.program.now s turns has was)
-
-pub returns-clause-not_logged : goal.returns-clause-not_logged
-returns-clause-not_logged g c = ap is_logged c.in_ok-weave.ensures.memory ∙ c.in_ok-simulation.ensures.not_logged
 
 pub returns-clause-cores : goal.returns-clause-cores
 returns-clause-cores g c =
