@@ -196,8 +196,8 @@ fn weave_in_order<R: Threads + Sync, G: Gate>(
 }
 
 /// Fires the events of an interval's accesses, which were made by these turns, and does the same
-/// without a recording: core by core, as far as the order of the accesses does not matter, where no
-/// mesh is crossed.
+/// without a recording and without a gate: core by core, as far as the order of the accesses does
+/// not matter.
 pub fn weave_replayed(
     alloc: Global,
     machine: &Machine,

@@ -27,8 +27,8 @@ use std::alloc::Global;
 use weave_chains::ChainBuffers;
 use zs_num::{Cycle, NoMemory};
 
-/// Runs this interval, which ends at cycle `end`, 2^34 at most, under a list of turns, in a run
-/// whose memory one worker has alone. `places` has the domain of each component. Answers the run
+/// Runs this interval, which ends at cycle `end`, 10 * 2^30 at most, under a list of turns, in a
+/// run whose memory one worker has alone. `places` has the domain of each component. Answers the run
 /// after the interval, or the first place of the turns that is not legal.
 pub fn interval_under(
     simulation: Simulation,
