@@ -1,5 +1,5 @@
 -- The ways of a cache by their places in its arrays, which have the ways of one set after the other.
-use Rattle.std.specs.Prelude.{◌≡◌, ◌≢◌, ℕ, ◌+◌, ◌*◌, ◌/◌, ◌%◌, ◌^◌, ◌<◌, ◌≤◌, List, length, slice_index, slice_set}
+use Rattle.std.specs.Prelude.{◌≡◌, ◌≢◌, ℕ, ◌+◌, ◌*◌, ◌/◌, ◌%◌, ◌^◌, ◌<◌, ◌≤◌, Bool, true, false, List, length, slice_index, slice_set}
 use Rattle.cache_set.specs.Pieces.{AreAgedSets, IsSameOrder, piece}
 
 -- where a line's set stands among the sets
@@ -45,6 +45,12 @@ pub record IsPutIn (sets ways : ℕ) (ages tags : List ℕ) (n line place age : 
   pub next : IsNext ways anew n place
   pub ages_are : ages_then ≡ slice_set anew place age
   pub tags_are : tags_then ≡ slice_set tags place line
+
+-- The same, and whether the place was not free: then the line that it had is evicted.
+pub record IsEntered (sets ways : ℕ) (ages tags : List ℕ) (n line place age : ℕ) (ages_then tags_then : List ℕ) (live : Bool) : Type 0 where
+  pub put : IsPutIn sets ways ages tags n line place age ages_then tags_then
+  pub live_was : live ≡ true → 0 < slice_index put.anew place
+  pub free_was : live ≡ false → slice_index put.anew place ≡ 0
 
 -- the ways of a cache with their ages and tags
 pub record AreTags (sets ways tick : ℕ) (ages tags : List ℕ) : Type 0 where

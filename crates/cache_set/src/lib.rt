@@ -10,5 +10,5 @@ mod ticks;
 
 pub use letter::Letter;
 pub use set::{Set, Way};
-pub use tags::Tags;
+pub use tags::{Entered, Tags, number_in_shard};
 pub use ticks::next_age;

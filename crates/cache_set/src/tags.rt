@@ -1,7 +1,7 @@
 //! The ways of a cache by their places: which line each has, and when it was used.
 ghost use Rattle.std.specs.Prelude.{◌≡◌, ◌⊎◌, ℕ, ◌+◌, ◌*◌, ◌/◌, ◌%◌, ◌<◌, ◌≤◌, ◌^◌, [], length, slice_index, take, drop, IfSome, IfNone, IfOk, replicate, vec_len};
 ghost use Rattle.cache_set.specs.Ages.{IsPlaceOf, HasNoPlace};
-ghost use Rattle.cache_set.specs.Places.{AreTags, HasRoom, IsNext, IsPutIn, IsVictim, StandsAt, StandsNowhere, set_number_in};
+ghost use Rattle.cache_set.specs.Places.{AreTags, HasRoom, IsEntered, IsNext, IsPutIn, IsVictim, StandsAt, StandsNowhere, set_number_in};
 
 use crate::ages::{oldest_place, place_of};
 use crate::ticks::next_age;
@@ -59,7 +59,18 @@ impl Tags {
         ensures here { IfSome result (StandsAt self.now.ways self.now.ages.items self.now.tags.items (set_number_in shards self.now.sets line) line) }
         ensures none { IfNone result (StandsNowhere self.now.ways self.now.ages.items self.now.tags.items (set_number_in shards self.now.sets line) line) }
     {
-        let set = set_number(shards, self.sets, line);
+        self.find_in(set_number(shards, self.sets, line), line)
+    }
+
+    /// The way of a set that has a line, if one has it.
+    #[inline(always)]
+    pub fn find_in(&self, set: u64, line: u64) -> Option<usize>
+        requires set { set < self.now.sets }
+        requires ages { vec_len self.now.ages ≡ self.now.sets * self.now.ways }
+        requires tags { vec_len self.now.tags ≡ self.now.sets * self.now.ways }
+        ensures here { IfSome result (StandsAt self.now.ways self.now.ages.items self.now.tags.items set line) }
+        ensures none { IfNone result (StandsNowhere self.now.ways self.now.ages.items self.now.tags.items set line) }
+    {
         let start = start_of(set, self.sets, self.ways, self.ages.len());
         find_from(&self.ages, &self.tags, start, self.ways, set, line)
     }
@@ -116,6 +127,61 @@ impl Tags {
         self.tags[place] = line;
         (place, had)
     }
+
+    /// The same, and what the way had before.
+    #[inline(always)]
+    pub fn enter(&mut self, shards: u64, line: u64) -> Entered
+        requires shards { 0 < shards }
+        requires sets { 0 < self.old.sets }
+        requires are { AreTags self.old.sets self.old.ways self.old.tick self.old.ages.items self.old.tags.items }
+        ensures entered { IsEntered self.old.sets self.old.ways self.old.ages.items self.old.tags.items (set_number_in shards self.old.sets line) line result.place self.new.tick self.new.ages.items self.new.tags.items result.evicts }
+        ensures had { slice_index self.old.tags.items result.place ≡ result.had }
+        ensures within { result.place < self.old.sets * self.old.ways }
+        ensures way { result.way < self.old.ways }
+        ensures sets { self.new.sets ≡ self.old.sets }
+        ensures ways { self.new.ways ≡ self.old.ways }
+    {
+        let age = next_age(&mut self.ages, &mut self.tick, self.sets, self.ways);
+        let set = set_number(shards, self.sets, line);
+        let start = start_of(set, self.sets, self.ways, self.ages.len());
+        let place = next_from(&self.ages, start, self.ways, set);
+        let had = self.tags[place];
+        let evicts = self.ages[place] != 0;
+        self.ages[place] = age;
+        self.tags[place] = line;
+        Entered {
+            place,
+            way: place - start,
+            had,
+            evicts,
+        }
+    }
+}
+
+/// The way that a line came into.
+#[derive(Clone, Copy)]
+pub struct Entered {
+    /// Its place among all ways.
+    pub place: usize,
+    /// Its number in its set.
+    pub way: usize,
+    /// The line that it had before, if it wasn't always free.
+    pub had: u64,
+    /// It was not free: the line that it had leaves.
+    pub evicts: bool,
+}
+
+/// The number of a line among those of its shard. With one shard it is the line's own.
+#[inline(always)]
+pub fn number_in_shard(shards: u64, line: u64) -> u64
+    requires { 0 < shards }
+    ensures { result ≡ line / shards }
+{
+    if shards == 1 {
+        line
+    } else {
+        quotient(line, shards)
+    }
 }
 
 /// Where a line's set stands among the sets.
@@ -126,7 +192,7 @@ fn set_number(shards: u64, sets: u64, line: u64) -> u64
     ensures value { result ≡ set_number_in shards sets line }
     ensures within { result < sets }
 {
-    remainder(quotient(line, shards), sets)
+    remainder(number_in_shard(shards, line), sets)
 }
 
 /// Where a set's ways begin.

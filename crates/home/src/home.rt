@@ -1,5 +1,5 @@
 //! A home.
-ghost use Rattle.std.specs.Prelude.{◌≡◌, ◌+◌, ◌<◌, ◌≤◌, ◌%◌, ◌++◌, take, drop, length, option_map, slice_index_or, slice_set, IfOk, IsSome, Some, None};
+ghost use Rattle.std.specs.Prelude.{◌≡◌, ◌+◌, ◌<◌, ◌≤◌, ◌%◌, ◌++◌, take, drop, length, option_map, slice_index_or, slice_set, IfOk, IfSome, IfNone, IsSome, Some, None};
 ghost use Rattle.zs_num.specs.Request.{line_bytes};
 ghost use Rattle.flat_memory.specs.FlatMemory.{after_write, is_reservation};
 ghost use Rattle.home.specs.HomeState.{KeepsLine, brought_in, bytes_at, dropped_in, evicted_by, fetched_in, granted_in, is_marked_by_others, looked_up_in, marked_dirty_in, owned_in, row_at, unfetched_in, with_bytes_at, line_place};
@@ -10,8 +10,7 @@ use crate::filling::first_bytes;
 use crate::marks::Marks;
 use crate::met::{Last, Met, find, remember};
 use crate::row::Row;
-use cache_set::{Tags, next_age};
-use division::quotient;
+use cache_set::{Tags, next_age, number_in_shard};
 use elf_load::Image;
 use mesi_dir::CoreSet;
 use std::alloc::Global;
@@ -101,43 +100,49 @@ impl Home {
         }
     }
 
-    /// The line that the L2 evicts for this one, with its row. None where it has room.
-    pub fn evicted(&self, line: u64) -> Option<(u64, Row)>
-        ensures { option_map evicted_in result ≡ evicted_by self.now line }
+    /// What is kept of a line, where the L2 has it: the line is used then.
+    #[inline(always)]
+    pub fn meet(&mut self, line: u64) -> Option<Row>
+        ensures row { option_map line_in result ≡ row_at self.old line }
+        ensures used { IfSome result (λ _. self.new ≡ looked_up_in line self.old) }
+        ensures same { IfNone result (self.new ≡ self.old) }
     {
-        match self.ways.victim(self.shards, line) {
-            Some(place) => Some((self.ways.tags[place], self.rows[place])),
+        match find(&self.ways, &self.met, self.shards, self.below, line) {
+            Some(place) => {
+                let age = next_age(
+                    &mut self.ways.ages,
+                    &mut self.ways.tick,
+                    self.ways.sets,
+                    self.ways.ways,
+                );
+                self.ways.ages[place] = age;
+                self.met.last = Some(Last { line, place });
+                Some(self.rows[place])
+            }
             None => None,
         }
     }
 
-    /// A line that the L2 has is used.
-    pub fn look_up(&mut self, line: u64)
-        requires { IsSome (row_at self.old line) }
-        ensures { self.new ≡ looked_up_in line self.old }
-    {
-        if let Some(place) = find(&self.ways, &self.met, self.shards, self.below, line) {
-            let age = next_age(
-                &mut self.ways.ages,
-                &mut self.ways.tick,
-                self.ways.sets,
-                self.ways.ways,
-            );
-            self.ways.ages[place] = age;
-            self.met.last = Some(Last { line, place });
-        }
-    }
-
-    /// A line comes into the L2, clean. No core has it. What is evicted for it has left before.
-    pub fn bring(&mut self, line: u64)
+    /// A line comes into the L2, clean. No core has it. The answer is the line that leaves for it,
+    /// with its row, None where there was room: a caller makes the cores give it up.
+    #[inline(always)]
+    pub fn enter(&mut self, line: u64) -> Option<(u64, Row)>
         requires { row_at self.old line ≡ None }
-        ensures { self.new ≡ brought_in line self.old }
+        ensures evicted { option_map evicted_in result ≡ evicted_by self.old line }
+        ensures after { self.new ≡ brought_in line self.old }
     {
-        let (place, _had) = self.ways.put_in(self.shards, line);
+        let entered = self.ways.enter(self.shards, line);
+        let place = entered.place;
+        let row = self.rows[place];
         self.rows[place] = Row::nobody();
-        let number = quotient(line, self.shards).saturating_sub(self.below);
-        remember(&mut self.met.guesses, number, place, self.ways.ways);
+        let number = number_in_shard(self.shards, line).saturating_sub(self.below);
+        remember(&mut self.met.guesses, number, entered.way);
         self.met.last = Some(Last { line, place });
+        if entered.evicts {
+            Some((entered.had, row))
+        } else {
+            None
+        }
     }
 
     /// Memory has other bytes of a line than the L2, if this has it.
@@ -235,7 +240,7 @@ impl Home {
         ensures place { result ≡ line_place self.now line }
         ensures kept { KeepsLine self.now line }
     {
-        (quotient(line, self.shards).saturating_sub(self.below) * LINE) as usize
+        (number_in_shard(self.shards, line).saturating_sub(self.below) * LINE) as usize
     }
 
     /// Whether a core has marked these bytes by a load-reserved.

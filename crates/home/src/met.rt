@@ -3,8 +3,8 @@
 ghost use Rattle.std.specs.Prelude.{◌≡◌, ◌*◌, ◌<◌, ◌≤◌, ◌%◌, IfSome, IfNone, slice_index_or, slice_set, vec_len};
 ghost use Rattle.cache_set.specs.Places.{StandsAt, StandsNowhere, set_number_in};
 
-use cache_set::Tags;
-use division::{quotient, remainder};
+use cache_set::{Tags, number_in_shard};
+use division::remainder;
 
 /// The way that was used last, and the ways into which lines came last.
 #[derive(Drop)]
@@ -56,11 +56,12 @@ fn find_elsewhere(ways: &Tags, guesses: &[u8], shards: u64, below: u64, line: u6
     ensures here { IfSome result (StandsAt ways.now.ways ways.now.ages.items ways.now.tags.items (set_number_in shards ways.now.sets line) line) }
     ensures none { IfNone result (StandsNowhere ways.now.ways ways.now.ages.items ways.now.tags.items (set_number_in shards ways.now.sets line) line) }
 {
-    let number = quotient(line, shards);
+    let number = number_in_shard(shards, line);
+    let set = remainder(number, ways.sets);
     let way = guess(guesses, number.saturating_sub(below));
-    match at_way(ways, shards, line, way) {
+    match at_way(ways, set, line, way) {
         Some(place) => Some(place),
-        None => search(ways, shards, line),
+        None => ways.find_in(set, line),
     }
 }
 
@@ -75,30 +76,27 @@ fn guess(guesses: &[u8], line: u64) -> usize
     }
 }
 
-/// A line of the bank came into the way at this place.
+/// A line of the bank came into this way.
 #[inline(always)]
-pub(crate) fn remember(guesses: &mut [u8], line: u64, place: usize, ways: usize)
-    requires some { 1 ≤ ways }
-    requires few { ways ≤ 32 }
-    ensures { guesses.new ≡ slice_set guesses.old line (place % ways) }
+pub(crate) fn remember(guesses: &mut [u8], line: u64, way: usize)
+    requires { way < 32 }
+    ensures { guesses.new ≡ slice_set guesses.old line way }
 {
     let at = line as usize;
     if at < guesses.len() {
-        guesses[at] = remainder(place as u64, ways as u64) as u8;
+        guesses[at] = way as u8;
     }
 }
 
-/// This way of a line's set, if it has the line.
+/// This way of a set, if it has the line.
 #[inline(always)]
 #[tactic(auto, using(cache_set::proofs::Pieces::within_pieces))]
-fn at_way(ways: &Tags, shards: u64, line: u64, way: usize) -> Option<usize>
-    requires shards { 0 < shards }
-    requires sets { 0 < ways.now.sets }
+fn at_way(ways: &Tags, set: u64, line: u64, way: usize) -> Option<usize>
+    requires set { set < ways.now.sets }
     requires ages { vec_len ways.now.ages ≡ ways.now.sets * ways.now.ways }
     requires tags { vec_len ways.now.tags ≡ ways.now.sets * ways.now.ways }
-    ensures { IfSome result (StandsAt ways.now.ways ways.now.ages.items ways.now.tags.items (set_number_in shards ways.now.sets line) line) }
+    ensures { IfSome result (StandsAt ways.now.ways ways.now.ages.items ways.now.tags.items set line) }
 {
-    let set = remainder(quotient(line, shards), ways.sets);
     if way >= ways.ways {
         return None;
     }
@@ -108,17 +106,4 @@ fn at_way(ways: &Tags, shards: u64, line: u64, way: usize) -> Option<usize>
     } else {
         None
     }
-}
-
-/// The way that has a line, by a search of its set.
-#[inline(never)]
-fn search(ways: &Tags, shards: u64, line: u64) -> Option<usize>
-    requires shards { 0 < shards }
-    requires sets { 0 < ways.now.sets }
-    requires ages { vec_len ways.now.ages ≡ ways.now.sets * ways.now.ways }
-    requires tags { vec_len ways.now.tags ≡ ways.now.sets * ways.now.ways }
-    ensures here { IfSome result (StandsAt ways.now.ways ways.now.ages.items ways.now.tags.items (set_number_in shards ways.now.sets line) line) }
-    ensures none { IfNone result (StandsNowhere ways.now.ways ways.now.ages.items ways.now.tags.items (set_number_in shards ways.now.sets line) line) }
-{
-    ways.find(shards, line)
 }

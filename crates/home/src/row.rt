@@ -11,13 +11,13 @@ use mesi_dir::CoreSet;
 pub struct Row {
     /// The cores whose L1 has the line.
     pub sharers: CoreSet,
+    /// The cores whose instruction cache has it.
+    pub fetchers: CoreSet,
+    // Last: behind them is padding, and a copy in large pieces cuts none of the sets in two.
     /// Memory has other bytes of it.
     pub dirty: bool,
     /// One core alone has it, in M or E.
     pub alone: bool,
-    // Last, since it is asked least often: the others are mostly in one line of the host's caches.
-    /// The cores whose instruction cache has it.
-    pub fetchers: CoreSet,
 }
 
 impl Row {
@@ -27,9 +27,9 @@ impl Row {
     {
         Row {
             sharers: CoreSet::empty(),
+            fetchers: CoreSet::empty(),
             dirty: false,
             alone: false,
-            fetchers: CoreSet::empty(),
         }
     }
 
@@ -55,7 +55,9 @@ impl Row {
         requires { core < 256 }
         ensures { line_in self.new ≡ record (line_in self.old) { sharers = core ∷ []; alone = true } }
     {
-        self.sharers = CoreSet::of(core);
+        // In its place: a set that is made elsewhere and copied here is waited for.
+        self.sharers = CoreSet::empty();
+        self.sharers.add(core);
         self.alone = true;
     }
 

@@ -1,10 +1,10 @@
-use Rattle.std.proofs.Common.{ap, ◌∙◌}
+use Rattle.std.proofs.Common.{Some, sym, ap, ◌∙◌}
 use Rattle.cache_set.specs.Lines.{in_set_of}
 use Rattle.cache_set.specs.Ways.{used}
 use Rattle.cache_set.proofs.SetsInArrays.{all_past}
-use Rattle.home.specs.HomeState.{looked_up_in, row_at}
-use Rattle.home.proofs.Homes.{age_later, home_anew, home_used, home_with, is_some_none, lists_anew, row_nowhere, stands_anew, used_there}
-use Rattle.home.proofs.home.Home.look_up.Goals as goal
+use Rattle.home.specs.HomeState.{HomeLine, looked_up_in, row_at}
+use Rattle.home.proofs.Homes.{age_later, home_anew, home_used, home_with, line_there, lists_anew, row_nowhere, row_standing, stands_anew, used_there}
+use Rattle.home.proofs.home.Home.meet.Goals as goal
 
 pub next_age-age-requires-clause-past : goal.next_age-age-requires-clause-past
 next_age-age-requires-clause-past c = all_past c.self.invariant.ways_are.aged
@@ -22,9 +22,18 @@ invariant_of-self c =
     rw c.next_age-age.ensures.tick
     (home_used (home_anew was age anew order all later early) c.args.line p (stands_anew was age anew order all later early c.args.line p c.in-Some.ensures.here) age (age_later was age anew order all later early) early)
 
-pub returns-in-Some : goal.returns-in-Some
+pub returns-in-Some-clause-row : goal.returns-in-Some-clause-row
+unfolding row_at
+returns-in-Some-clause-row c =
+    let was = c.self.invariant in
+    let p = c.in-Some.place in
+    let at = c.in-Some.ensures.here in
+    rw (← c.self.view_is)
+    (sym (row_standing was c.args.line p at ∙ ap (λ (row : HomeLine). Some row) (line_there was c.args.line p at c.index.result.now c.index.ensures)))
+
+pub returns-in-Some-clause-used : goal.returns-in-Some-clause-used
 unfolding looked_up_in
-returns-in-Some c =
+returns-in-Some-clause-used c =
     let was = c.self.invariant in
     let p = c.in-Some.place in
     let age = c.next_age-age.result in
@@ -39,7 +48,6 @@ returns-in-Some c =
     (used_there (home_anew was age anew order all later early) c.args.line p (stands_anew was age anew order all later early c.args.line p c.in-Some.ensures.here) age (age_later was age anew order all later early)
     ∙ ap (in_set_of s.shards c.args.line (used c.args.line)) (lists_anew was age anew order all later early)))
 
-pub returns-in_default : goal.returns-in_default
+pub returns-in-None-clause-row : goal.returns-in-None-clause-row
 unfolding row_at
-returns-in_default c =
-    absurd (is_some_none (row_at c.args.self.now c.args.line) c.requires (rw (← c.self.view_is) (row_nowhere c.self.invariant c.args.line c.in_default.ensures.none)))
+returns-in-None-clause-row c = rw (← c.self.view_is) (sym (row_nowhere c.self.invariant c.args.line c.in-None.ensures.none))
