@@ -6,7 +6,6 @@ use Rattle.std.proofs.lemmas.Nat.{and_le_r}
 use Rattle.std.proofs.lemmas.List.{length-set, get_or_default, get_or_past, get_or-set_same, get_or-set_other, set-set}
 use Rattle.l1_cache.specs.declared.near.Near.{Near}
 use Rattle.l1_cache.specs.declared.near.Kept.{Kept}
-use Rattle.cache_set.specs.Pieces.{AreAgedSets}
 use Rattle.cache_set.specs.Places.{AreTags, StandsAt, set_number_in}
 use Rattle.cache_set.specs.declared.letter.Letter.{Letter}
 use Rattle.cache_set.specs.declared.letter.Letter.TheVariants.{M, E, S, I}

@@ -8,7 +8,7 @@ use Rattle.cache_set.specs.declared.letter.Letter.TheVariants.{S}
 use Rattle.cache_set.specs.LetterFacts.{is_modified}
 use Rattle.cache_set.specs.Lines.{in_set_of, set_number, set_of}
 use Rattle.cache_set.specs.Pieces.{AreAgedSets, IsSameOrder, sets_in}
-use Rattle.cache_set.specs.Ways.{kept_of, without, used, filled, changed}
+use Rattle.cache_set.specs.Ways.{kept_of, without, used, filled, changed, victim_of}
 use Rattle.cache_set.proofs.Pieces.{within_pieces}
 use Rattle.cache_set.proofs.SetsInArrays.{sets_anew}
 use Rattle.l1_cache.specs.declared.near.Kept.{Kept}
@@ -210,6 +210,20 @@ module _ {w : DataWays} {bytes : List (List ℕ)} {l1i : InstructionWays} (parts
         ∙ (sets_filled aged_now parts.ways.sets_are.0 w.shards line copies long no_copy p (parts.ways.tags.some parts.ways.sets_are.0) next age (copy_in k b) (omega (arith, first_age))
         ∙ ap (λ (s : List (List (ℕ × Copy))). in_set_of w.shards line (filled w.tags.ways line (copy_in k b)) s) sets_now))
 
+    -- the victim for it
+    evicted_now : victim_in view line ≡ victim_of w.tags.ways (set_of w.shards line (sets_in w.tags.sets w.tags.ways anew tags copies))
+    evicted_now = ap (λ (s : List (List (ℕ × Copy))). victim_of w.tags.ways (set_of w.shards line s)) (sym sets_now)
+
+    pub evicts_none : get_or anew p 0 ≡ 0 → victim_in view line ≡ None
+    evicts_none free =
+        evicted_now ∙ next_free aged_now parts.ways.sets_are.0 w.shards line copies long no_copy p (parts.ways.tags.some parts.ways.sets_are.0) next free
+
+    pub evicts_this : 0 < get_or anew p 0 → victim_in view line ≡ Some (get_or tags p 0, copy_in (get_or kept p no_kept) (get_or bytes p []))
+    evicts_this live =
+        evicted_now
+        ∙ (next_full aged_now parts.ways.sets_are.0 w.shards line copies long no_copy p (parts.ways.tags.some parts.ways.sets_are.0) next live
+        ∙ ap (λ (x : Copy). Some (get_or tags p 0, x)) (copy_at_place kept bytes p same_length))
+
     pub filled_now : (k : Kept) (b now : List ℕ) → b ≡ now
         → with_sets w l1i (sets_in w.tags.sets w.tags.ways (set anew p age) (set tags p line) (copies_in (set kept p k) (set bytes p b))) ≡ filled_in line (copy_in k now) view
     filled_now k b now same = filled_with k b ∙ ap (λ (l : List ℕ). filled_in line (copy_in k l) view) same
@@ -226,7 +240,7 @@ module _ {w : DataWays} {bytes : List (List ℕ)} {l1i : InstructionWays} (parts
         near_but_at (near_used parts.ways.near (set anew p age) (λ q l live. live_then parts.ways.tags.aged age anew order all later p q l first_age live) parts.ways.tags.aged.ages_are)
         p evicted had (set anew p age) (set tags p line) (set kept p k) (λ q apart live. live) (λ q apart. get_or-set_other tags p q line 0 apart) (λ q apart. get_or-set_other kept p q k no_kept apart)
 
-    stands_filled : StandsAt w.tags.ways (set anew p age) (set tags p line) (set_for w line) line p
+    pub stands_filled : StandsAt w.tags.ways (set anew p age) (set tags p line) (set_for w line) line p
     stands_filled = record {
       from = next.from;
       to = next.to;

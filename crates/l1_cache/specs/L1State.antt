@@ -1,5 +1,5 @@
 -- The L1 of one core: its data cache, with the bytes of the lines, and its instruction cache.
-use Rattle.std.specs.Prelude.{◌≡◌, ℕ, ◌%◌, Bool, false, if◌then◌else◌, List, [], ◌∷◌, length, replicate, Option, Some, None, is_some, unwrap_or}
+use Rattle.std.specs.Prelude.{◌≡◌, ℕ, ◌%◌, Bool, false, if◌then◌else◌, List, [], ◌∷◌, length, replicate, Option, Some, None, is_some, unwrap_or, IsSome}
 use Rattle.std.specs.Option.{option_map_or}
 use Rattle.zs_num.specs.Request.{line_at, line_bytes}
 use Rattle.zs_num.specs.declared.request.Request.{Request}
@@ -126,6 +126,13 @@ set_free_in line free l1 = option_map_or (λ copy. answered_in line copy.bytes f
 abbrev pub victim_in : L1State → (line : ℕ) → Option (ℕ × Copy)
 victim_in l1 line = victim_of l1.ways (copies_at l1 line)
 
+-- A line that was not there came in, not free to write, and its bytes come later: given some, it is as if it had come in
+-- with them. Until then the bytes of the line that was evicted for it, if one was, stand for its own.
+pub record HasEntered (was : L1State) (line : ℕ) (letter : Letter) (now : L1State) : Type 0 where
+  pub there : IsSome (copy_at now line)
+  pub left : (victim : ℕ × Copy) → victim_in was line ≡ Some victim → (copy : Copy) → copy_at now line ≡ Some copy → copy.bytes ≡ victim.1.bytes
+  pub given : (bytes : List ℕ) → answered_in line bytes false now ≡ filled_in line (record { letter = letter; free = false; bytes = bytes }) was
+
 abbrev pub instruction_victim_in : L1State → (line : ℕ) → Option (ℕ × Unit {0})
 instruction_victim_in l1 line = victim_of l1.l1i_ways (instructions_at l1 line)
 
@@ -168,6 +175,11 @@ private_reply l1 (Lr addr width) = 0
 private_reply l1 (Sc addr width value paired) = 0
 private_reply l1 (Amo op addr width value) = 0
 private_reply l1 (Fetch addr) = 0
+
+-- a store that was served elsewhere writes to a line that is there, free to write from then on or not
+unfoldable pub written_in : (addr width value : ℕ) → (free : Bool) → L1State → L1State
+written_in addr width value free l1 =
+    option_map_or (λ copy. answered_in (line_at addr) (with_number copy.bytes (place_in_line addr) width value) free l1) (copy_at l1 (line_at addr)) l1
 
 -- a copy after a store
 abbrev pub stored : (place width value : ℕ) → Copy → Copy

@@ -2,7 +2,7 @@
 ghost use Rattle.std.specs.Prelude.{◌≡◌, ℕ, ◌+◌, ◌<◌, ◌≤◌, ◌^◌, false, if◌then◌else◌, is_some, length, option_map, unwrap_or, IfOk, IfSome, IfNone, IsSome, None};
 ghost use Rattle.zs_num.specs.Request.{addr_of, line_at, line_bytes, width_of};
 ghost use Rattle.zs_num.specs.declared.request.Request.TheVariants.{Load, Store, Fetch};
-ghost use Rattle.l1_cache.specs.L1State.{AreBytesOf, answered_in, copy_at, filled_in, given_up_in, has_instructions, instruction_filled_in, instruction_given_up_in, instruction_victim_in, is_private, kept_with_in, letter_of, new_l1, place_in_line, private_after, private_reply, set_free_in, shared_in, victim_in};
+ghost use Rattle.l1_cache.specs.L1State.{AreBytesOf, HasEntered, answered_in, copy_at, filled_in, given_up_in, has_instructions, instruction_filled_in, instruction_given_up_in, instruction_victim_in, is_private, kept_with_in, letter_of, new_l1, place_in_line, private_after, private_reply, set_free_in, shared_in, victim_in, written_in};
 
 use crate::data_ways::DataWays;
 use crate::l1i::InstructionWays;
@@ -79,10 +79,11 @@ impl L1 {
 
     /// Serves an access that needs nothing but this L1: a load of a line that it has, a store to
     /// one that is free to write, a fetch from a line of the instruction cache. The answer is the
-    /// reply, None where the access needs more: then nothing changes.
+    /// reply, None where the access needs more: then nothing changes. What is compiled for `T`, any
+    /// type, is compiled for the callers that name it.
     #[inline(always)]
     #[tactic(auto, unfolding(crate::specs::L1State::is_private))]
-    pub fn serve_alone(&mut self, request: Request) -> Option<u64>
+    pub fn serve_alone<T>(&mut self, request: Request) -> Option<u64>
         requires some { 1 ≤ width_of request }
         requires few { width_of request ≤ 8 }
         requires within { place_in_line (addr_of request) + width_of request ≤ line_bytes }
@@ -91,15 +92,15 @@ impl L1 {
         ensures after { self.new ≡ (if is_private self.old request then private_after self.old request else self.old) }
     {
         match request {
-            Request::Load { addr, width } => self.load(addr, width),
-            Request::Store { addr, width, value } => self.store(addr, width, value),
-            Request::Fetch { addr } => self.fetch(addr),
+            Request::Load { addr, width } => self.load::<T>(addr, width),
+            Request::Store { addr, width, value } => self.store::<T>(addr, width, value),
+            Request::Fetch { addr } => self.fetch::<T>(addr),
             Request::Lr { .. } | Request::Sc { .. } | Request::Amo { .. } => None,
         }
     }
 
     #[inline(always)]
-    fn load(&mut self, addr: u64, width: u8) -> Option<u64>
+    fn load<T>(&mut self, addr: u64, width: u8) -> Option<u64>
         requires some { 1 ≤ width }
         requires few { width ≤ 8 }
         requires within { place_in_line addr + width ≤ line_bytes }
@@ -119,7 +120,7 @@ impl L1 {
     }
 
     #[inline(always)]
-    fn store(&mut self, addr: u64, width: u8, value: u64) -> Option<u64>
+    fn store<T>(&mut self, addr: u64, width: u8, value: u64) -> Option<u64>
         requires few { width ≤ 8 }
         requires within { place_in_line addr + width ≤ line_bytes }
         ensures private { is_some result ≡ is_private self.old (Store addr width value) }
@@ -139,7 +140,7 @@ impl L1 {
     }
 
     #[inline(always)]
-    fn fetch(&mut self, addr: u64) -> Option<u64>
+    fn fetch<T>(&mut self, addr: u64) -> Option<u64>
         ensures private { is_some result ≡ is_private self.old (Fetch addr) }
         ensures reply { IfSome result (λ reply. reply ≡ private_reply self.old (Fetch addr)) }
         ensures after { self.new ≡ (if is_private self.old (Fetch addr) then private_after self.old (Fetch addr) else self.old) }
@@ -239,6 +240,49 @@ impl L1 {
         self.ways.kept[place] = kept;
         self.ways.near[near_index(line, self.ways.mask)] = near_of(line, place, kept);
         self.bytes[place].copy_from_slice(bytes);
+    }
+
+    /// A line that is not there comes in with this letter, and isn't free to write. The answer is
+    /// the victim that leaves for it, with its letter, None where there is room for both. The bytes
+    /// of the victim stand for those of the line until `answer` gives it its own.
+    #[inline(always)]
+    pub fn enter(&mut self, line: u64, letter: Letter) -> Option<(u64, Letter)>
+        requires { copy_at self.old line ≡ None }
+        ensures victim { result ≡ option_map (λ victim. (victim.0, victim.1.letter)) (victim_in self.old line) }
+        ensures after { HasEntered self.old line letter self.new }
+    {
+        let entered = self.ways.tags.enter(self.ways.shards, line);
+        let place = entered.place;
+        let was = self.ways.kept[place].letter;
+        let kept = Kept {
+            letter,
+            free: false,
+        };
+        let left = near_index(entered.had, self.ways.mask);
+        self.ways.near[left] = Near::NONE;
+        self.ways.kept[place] = kept;
+        self.ways.near[near_index(line, self.ways.mask)] = near_of(line, place, kept);
+        if entered.evicts {
+            Some((entered.had, was))
+        } else {
+            None
+        }
+    }
+
+    /// A store that was served elsewhere writes to a line that is there. It is free to write from
+    /// now on, or not.
+    #[inline(always)]
+    pub fn write(&mut self, addr: u64, width: u8, value: u64, free: bool)
+        requires there { IsSome (copy_at self.old (line_at addr)) }
+        requires few { width ≤ 8 }
+        requires within { place_in_line addr + width ≤ line_bytes }
+        ensures { self.new ≡ written_in addr width value free self.old }
+    {
+        let line = addr / LINE;
+        if let Some(place) = self.ways.find(line) {
+            self.ways.set_free(line, place, free);
+            numbers::write(&mut self.bytes[place], (addr % LINE) as usize, width, value);
+        }
     }
 
     /// A line that is there is used, with this letter from now on.

@@ -7,19 +7,19 @@ use Rattle.l1_cache.proofs.Instructions.{aged_then, at_met, has_none, has_some, 
 use Rattle.l1_cache.proofs.l1.L1.fetch.Goals as goal
 
 pub returns-in_err-place-clause-private : goal.returns-in_err-place-clause-private
-returns-in_err-place-clause-private c =
+returns-in_err-place-clause-private g c =
     rw (← c.self.view_is) (ap is_some c.from_residual.ensures ∙ sym (fetch_by _ c.args.addr ∙ has_none c.self.invariant (c.args.addr / 64) c.in_err-place.ensures.none))
 
 pub returns-in_err-place-clause-after : goal.returns-in_err-place-clause-after
-returns-in_err-place-clause-after c =
+returns-in_err-place-clause-after g c =
     rw (← c.self.view_is, fetch_by _ c.args.addr ∙ has_none c.self.invariant (c.args.addr / 64) c.in_err-place.ensures.none)
     (view_met c.self.invariant c.in_err-place.ensures.ways c.in_err-place.ensures.same)
 
 pub next_age-age-requires-clause-past : goal.next_age-age-requires-clause-past
-next_age-age-requires-clause-past c = all_past c.in_ok-place.ensures.ways.tags.aged
+next_age-age-requires-clause-past g c = all_past c.in_ok-place.ensures.ways.tags.aged
 
 pub invariant_of-self-2 : goal.invariant_of-self-2
-invariant_of-self-2 c =
+invariant_of-self-2 g c =
     let was = c.self.invariant in
     let ways = c.in_ok-place.ensures.ways in
     let same = c.in_ok-place.ensures.same in
@@ -51,14 +51,14 @@ invariant_of-self-2 c =
     })
 
 pub returns-clause-private : goal.returns-clause-private
-returns-clause-private c =
+returns-clause-private g c =
     rw (← c.self.view_is) (sym (fetch_by _ c.args.addr ∙ has_some c.self.invariant (c.args.addr / 64) c.in_ok-place.ensures.some c.in_ok-place.place c.in_ok-place.ensures.here))
 
 pub returns-clause-reply : goal.returns-clause-reply
-returns-clause-reply c = rw (← c.self.view_is) (sym (fetch_reply _ c.args.addr))
+returns-clause-reply g c = rw (← c.self.view_is) (sym (fetch_reply _ c.args.addr))
 
 pub returns-clause-after : goal.returns-clause-after
-returns-clause-after c =
+returns-clause-after g c =
     let was = c.self.invariant in
     let ways = c.in_ok-place.ensures.ways in
     let same = c.in_ok-place.ensures.same in

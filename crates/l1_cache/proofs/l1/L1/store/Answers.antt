@@ -21,19 +21,19 @@ may_not parts addr width value (inl lacks) = store_none _ addr width value (copy
 may_not parts addr width value (inr there) = store_by _ addr width value _ (copy_there parts (addr / 64) there.0 there.1) ∙ there.2
 
 pub returns-in_err-place-clause-private : goal.returns-in_err-place-clause-private
-returns-in_err-place-clause-private c =
+returns-in_err-place-clause-private g c =
     rw (← c.self.view_is) (ap is_some c.from_residual.ensures ∙ sym (may_not c.self.invariant c.args.addr c.args.width c.args.value c.in_err-place.ensures.none))
 
 pub returns-in_err-place-clause-after : goal.returns-in_err-place-clause-after
-returns-in_err-place-clause-after c =
+returns-in_err-place-clause-after g c =
     rw (← c.self.view_is, may_not c.self.invariant c.args.addr c.args.width c.args.value c.in_err-place.ensures.none)
     (ap (λ (w : DataWays). l1_view w c.self.inside.bytes.items c.self.inside.instructions) c.in_err-place.ensures.stays)
 
 pub next_age-age-requires-clause-past : goal.next_age-age-requires-clause-past
-next_age-age-requires-clause-past c = all_past c.in_ok-place.ensures.ways.tags.aged
+next_age-age-requires-clause-past g c = all_past c.in_ok-place.ensures.ways.tags.aged
 
 pub invariant_of-self-2 : goal.invariant_of-self-2
-invariant_of-self-2 c =
+invariant_of-self-2 g c =
     let was = c.self.invariant in
     let ways = c.in_ok-place.ensures.ways in
     let same = c.in_ok-place.ensures.same in
@@ -65,14 +65,14 @@ may : {w : DataWays} {bytes : List (List ℕ)} {l1i : InstructionWays} (parts : 
 may parts addr width value p at free = store_by _ addr width value _ (copy_there parts (addr / 64) p at) ∙ free
 
 pub returns-clause-private : goal.returns-clause-private
-returns-clause-private c =
+returns-clause-private g c =
     rw (← c.self.view_is) (sym (may c.self.invariant c.args.addr c.args.width c.args.value c.in_ok-place.place c.in_ok-place.ensures.here c.in_ok-place.ensures.free))
 
 pub returns-clause-reply : goal.returns-clause-reply
-returns-clause-reply c = rw (← c.self.view_is) (sym (store_reply _ c.args.addr c.args.width c.args.value))
+returns-clause-reply g c = rw (← c.self.view_is) (sym (store_reply _ c.args.addr c.args.width c.args.value))
 
 pub returns-clause-after : goal.returns-clause-after
-returns-clause-after c =
+returns-clause-after g c =
     let was = c.self.invariant in
     let ways = c.in_ok-place.ensures.ways in
     let same = c.in_ok-place.ensures.same in
