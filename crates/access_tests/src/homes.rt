@@ -18,29 +18,22 @@ fn home_of(alloc: Global, image: &Image) -> Result<Home, NoMemory>
     Home::new(alloc, 0, 1, 2, 2, 2, image)
 }
 
-/// A line that the L2 doesn't have comes in.
-fn comes(rt: &impl Abort, home: &mut Home, line: u64) {
-    match home.row(line) {
-        None => home.bring(line),
+/// A line that the L2 doesn't have comes in. Checks which line leaves for it.
+fn comes(rt: &impl Abort, home: &mut Home, line: u64, wanted: Option<u64>) {
+    let evicted = match home.row(line) {
+        None => home.enter(line),
         Some(_row) => panic!(rt; "the line is there"),
-    }
-}
-
-/// A line that the L2 has is used.
-fn is_used(rt: &impl Abort, home: &mut Home, line: u64) {
-    match home.row(line) {
-        Some(_row) => home.look_up(line),
-        None => panic!(rt; "the line is not there"),
-    }
-}
-
-/// Checks which line leaves for another.
-fn leaves(rt: &impl Abort, home: &Home, line: u64, wanted: Option<u64>) {
-    let evicted = match home.evicted(line) {
+    };
+    let evicted = match evicted {
         Some((evicted, _row)) => Some(evicted),
         None => None,
     };
     assert!(rt; evicted == wanted);
+}
+
+/// A line that the L2 has is used.
+fn is_used(rt: &impl Abort, home: &mut Home, line: u64) {
+    assert!(rt; home.meet(line).is_some());
 }
 
 /// Checks of a line whether a core's L1 and its instruction cache have it, and whether one core
@@ -62,15 +55,12 @@ fn the_line_of_a_set_that_was_used_longest_ago_leaves_for_another(
 ) -> Result<(), Fail> {
     let image = image(rt.alloc())?;
     let mut home = home_of(rt.alloc(), &image)?;
-    comes(&rt, &mut home, 1024);
-    leaves(&rt, &home, 1026, None);
-    comes(&rt, &mut home, 1026);
-    leaves(&rt, &home, 1025, None);
-    leaves(&rt, &home, 1028, Some(1024));
+    comes(&rt, &mut home, 1024, None);
+    comes(&rt, &mut home, 1026, None);
+    comes(&rt, &mut home, 1025, None);
     is_used(&rt, &mut home, 1024);
-    leaves(&rt, &home, 1028, Some(1026));
-    comes(&rt, &mut home, 1028);
-    leaves(&rt, &home, 1030, Some(1024));
+    comes(&rt, &mut home, 1028, Some(1026));
+    comes(&rt, &mut home, 1030, Some(1024));
     Ok(())
 }
 
@@ -78,7 +68,7 @@ fn the_line_of_a_set_that_was_used_longest_ago_leaves_for_another(
 fn a_line_of_the_l2_has_the_cores_that_got_it(rt: HostRuntime) -> Result<(), Fail> {
     let image = image(rt.alloc())?;
     let mut home = home_of(rt.alloc(), &image)?;
-    comes(&rt, &mut home, 1024);
+    comes(&rt, &mut home, 1024, None);
     has(&rt, &home, 1024, 0, (false, false, false));
     home.grant(1024, 0, true);
     has(&rt, &home, 1024, 0, (true, false, true));

@@ -28,7 +28,7 @@ fn loads(rt: &impl Abort, l1: &mut L1, line: u64, wanted: Option<u64>)
         addr: 64 * line + 8,
         width: 8,
     };
-    assert!(rt; l1.serve_alone(request) == wanted);
+    assert!(rt; l1.serve_alone::<Request>(request) == wanted);
 }
 
 /// Checks that it does not serve a store to a line alone.
@@ -40,7 +40,7 @@ fn does_not_store(rt: &impl Abort, l1: &mut L1, line: u64)
         width: 8,
         value: 5,
     };
-    assert!(rt; l1.serve_alone(request).is_none());
+    assert!(rt; l1.serve_alone::<Request>(request).is_none());
 }
 
 #[test]

@@ -1,6 +1,5 @@
 -- What the steps of an access ask of a bank is there.
-use Rattle.std.proofs.Common.{◌≡◌, ℕ, ◌+◌, ◌<◌, ◌≤◌, Bool, true, false, List, [], ◌∷◌, length, get_or, Option, Some, None, refl, sym, ap, ◌∙◌, subst, arith, inl, inr}
-use Rattle.std.specs.List.{All}
+use Rattle.std.proofs.Common.{◌≡◌, ℕ, ◌<◌, ◌≤◌, true, false, List, [], ◌∷◌, length, Option, Some, None, refl, sym, ap, ◌∙◌, subst, arith, inl, inr}
 use Rattle.std.specs.Prelude.{IsSome, nat_eq}
 use Rattle.std.specs.Set.{is_member}
 use Rattle.std.proofs.lemmas.Bool.{cases_eq, cases_lt}
@@ -9,7 +8,7 @@ use Rattle.std.proofs.lemmas.List.Elements.{All-cons}
 use Rattle.cache_set.specs.declared.letter.Letter.TheVariants.{I}
 use Rattle.home.specs.HomeState.{HomeLine, evicted_by, looked_up_in, nobody, row_at, row_of}
 use Rattle.l1_cache.specs.L1State.{Copy, L1State, copy_at, has_instructions, letter_of, no_l1, victim_in}
-use Rattle.shard.specs.BankSteps.{AreKnown, AsksFor, CanBring, CanEvict, CanLeave, KeepsVictim}
+use Rattle.shard.specs.BankSteps.{AreKnown, AsksFor, CanBring, CanEvict, CanLeave, KeepsVictim, StandsThere}
 use Rattle.shard.specs.Coherence.{is_valid}
 use Rattle.shard.specs.PartsLaws.{AreParts, IsInMemory, IsOwn}
 use Rattle.shard.specs.SharedStep.{Bank, brought_home, copy_of, l1_of, left_by_others, others_of, own_letter, shared_by_others, with_home}
@@ -101,6 +100,13 @@ module _ (p l : Bank) (are : AreParts p) (core line : ℕ) (within : core < leng
   keeps_victim =
       subst (λ (l1 : L1State). KeepsVictim l.home (victim_in l1 line)) (sym same) (leaves (victim_in (l1_of p core) line) refl)
 
+  stands : (o : Option (ℕ × Copy)) → victim_in (l1_of p core) line ≡ o → StandsThere (l1_of p core) o
+  stands None e = tt
+  stands (Some w) e = victim_copy p are core line within own w e
+
+  pub victim_stands : StandsThere (l1_of l core) (victim_in (l1_of l core) line)
+  victim_stands = subst (λ (l1 : L1State). StandsThere l1 (victim_in l1 line)) (sym same) (stands (victim_in (l1_of p core) line) refl)
+
 -- ---- a core's line comes in
 module _ (p l : Bank) (are : AreParts p) (core line : ℕ) (within : core < length p.l1s) (own : IsOwn p line) (inside : IsInMemory p.home line) (same : l1_of l core ≡ l1_of p core) (keeps : KeepsBank p l) (absent : own_letter p core line ≡ I) where
   few : core < 256
@@ -113,6 +119,7 @@ module _ (p l : Bank) (are : AreParts p) (core line : ℕ) (within : core < leng
     kept = (memory_in p l keeps line inside).1;
     absent = ap (λ (l1 : L1State). copy_at l1 line) same ∙ absent_copy p are line own core absent;
     victim = keeps_victim p l are core line within own same keeps;
+    stands = victim_stands p l are core line within own same keeps;
   }
 
 module _ (p : Bank) (are : AreParts p) (core line : ℕ) (asks : AsksFor p core line) where

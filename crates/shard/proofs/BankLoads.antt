@@ -1,16 +1,27 @@
--- A load leaves a line with its own bytes.
-use Rattle.std.proofs.Common.{◌≡◌, ℕ, ◌&&◌, Bool, not, List, set, Option, Some, None, refl, sym, ap, ◌∙◌}
+-- A load that an L1 can't serve alone is of a line that it doesn't have. It leaves a line with its own bytes.
+use Rattle.std.proofs.Common.{◌≡◌, ℕ, ◌&&◌, Bool, false, not, List, set, Option, Some, None, is_some, refl, sym, ap, ◌∙◌}
 use Rattle.std.specs.Option.{option_map_or}
 use Rattle.std.specs.Prelude.{IsSome}
-use Rattle.zs_num.specs.Request.{line_at}
+use Rattle.zs_num.specs.Request.{line_at, line_of}
+use Rattle.zs_num.specs.declared.request.Request.{Request}
 use Rattle.zs_num.specs.declared.request.Request.TheVariants.{Load}
+use Rattle.cache_set.specs.declared.letter.Letter.TheVariants.{I}
 use Rattle.home.specs.HomeState.{HomeState, is_marked_by_others}
-use Rattle.l1_cache.specs.L1State.{Copy, L1State, answered_in, copy_at, set_free_in}
+use Rattle.l1_cache.specs.L1State.{Copy, L1State, answered_in, copy_at, is_private, letter_of, set_free_in}
 use Rattle.shard.specs.BankSteps.{bank_with}
 use Rattle.shard.specs.Coherence.{is_alone}
 use Rattle.shard.specs.Marks.{bytes_after, marks_after}
 use Rattle.shard.specs.SharedStep.{answered, bytes_of, copy_of, l1_of, own_letter, with_l1}
 use Rattle.shard.proofs.BankSteps.{answered_by}
+
+none_has : (o : Option Copy) → is_some o ≡ false → I ≡ letter_of o
+none_has None none = refl
+none_has (Some copy) none = absurd cc
+
+pub load_absent : (l1 : L1State) (request : Request) (addr width : ℕ) → request ≡ Load addr width → is_private l1 request ≡ false → I ≡ letter_of (copy_at l1 (line_of request))
+unfolding is_private
+load_absent l1 request addr width is shared =
+    none_has (copy_at l1 (line_at addr)) (sym (ap (is_private l1) is) ∙ shared) ∙ sym (ap (λ (r : Request). letter_of (copy_at l1 (line_of r))) is)
 
 freed_as : (l1 : L1State) (line : ℕ) (free : Bool) (o : Option Copy) → copy_at l1 line ≡ o → IsSome o → set_free_in line free l1 ≡ answered_in line (bytes_of (copy_at l1 line)) free l1
 unfolding set_free_in

@@ -1,5 +1,5 @@
 -- A line is made ready: the code's steps one after the other, and how the bank meets the access.
-use Rattle.std.proofs.Common.{◌≡◌, ℕ, ◌&&◌, ◌↔◌, Bool, true, false, cond, not, List, [], ◌∷◌, Option, Some, None, is_some, refl, sym, ap, ◌∙◌}
+use Rattle.std.proofs.Common.{◌≡◌, ℕ, ◌&&◌, ◌↔◌, Bool, true, false, not, List, [], ◌∷◌, Option, Some, None, is_some, refl, sym, ap, ◌∙◌}
 use Rattle.std.specs.Option.{unwrap_or}
 use Rattle.std.specs.Prelude.{IsSome, IsTrue, option_map}
 use Rattle.zs_num.specs.declared.entry.Outcome.{Outcome}
@@ -12,7 +12,7 @@ use Rattle.home.specs.Rows.{line_in}
 use Rattle.l1_cache.specs.L1State.{L1State, kept_with_in}
 use Rattle.shard.specs.BankSteps.{bank_with, line_met}
 use Rattle.shard.specs.Coherence.{outcome_by, own_after}
-use Rattle.shard.specs.SharedStep.{Bank, brought_home, brought_to_own, copy_of, is_dirty_here, is_some_core, kept_with, left_by_others, others_of, own_letter, ready_from_home, ready_from_l2, ready_where_shared, shared_by_others, with_home, with_l1}
+use Rattle.shard.specs.SharedStep.{Bank, brought_home, brought_to_own, copy_of, dirty_by, given_up_by, is_dirty_here, is_some_core, kept_with, left_by_others, others_of, own_letter, ready_from_home, ready_from_l2, ready_where_shared, shared_by_others, with_home, with_l1}
 use Rattle.shard.proofs.BankSteps.{home_then, kept_by}
 
 -- ---- what the code's row says
@@ -77,6 +77,10 @@ module _ (p : Bank) (core line : ℕ) (write : Bool) where
       ∙ by_exclusive write (is_some (row_at p.home line)) ((row_of p.home line).alone && has) has (is_dirty_here p (evicted_by p.home line))
 
 -- ---- the steps
+pub left_nowhere : (core line : ℕ) (row : HomeLine) (p : Bank) → others_of core row ≡ [] → p ≡ left_by_others core line row p
+unfolding left_by_others
+left_nowhere core line row p none = sym (ap (λ (z : List ℕ). given_up_by line z (dirty_by line z p)) none)
+
 pub came_home : (write : Bool) (core line : ℕ) (p : Bank) (h1 h2 h3 : HomeState) (s1 s2 : List L1State) (letter : Letter) → letter ≡ own_after write I false → bank_with h1 s1 ≡ brought_home line p
     → bank_with h2 s2 ≡ brought_to_own letter core line (bank_with h1 s1) → h3 ≡ owned_in line core h2 → row_at p.home line ≡ None
     → bank_with h3 s2 ≡ ready_from_home write core line (row_at p.home line) p

@@ -1,5 +1,5 @@
 -- The steps of an access in code are the steps of a bank.
-use Rattle.std.proofs.Common.{◌≡◌, ℕ, ◌+◌, ◌<◌, ◌≤◌, ◌++◌, ◌||◌, Bool, true, false, cond, List, [], ◌∷◌, length, get_or, set, take, drop, Option, Some, None, refl, sym, ap, ap₂, ◌∙◌, subst, arith}
+use Rattle.std.proofs.Common.{◌≡◌, ℕ, ◌+◌, ◌<◌, ◌++◌, ◌||◌, Bool, true, false, cond, List, [], ◌∷◌, length, get_or, set, take, drop, Option, Some, None, refl, sym, ap, ap₂, ◌∙◌, subst, arith}
 use Rattle.std.specs.List.{All}
 use Rattle.std.specs.Option.{option_map_or}
 use Rattle.std.specs.Prelude.{IfSome, IsSome, ◌&&◌, not, option_map}
@@ -18,7 +18,7 @@ use Rattle.zs_num.specs.Request.{line_bytes}
 use Rattle.cache_set.specs.declared.letter.Letter.{Letter}
 use Rattle.cache_set.specs.declared.letter.Letter.TheVariants.{M, E, S, I}
 use Rattle.cache_set.specs.Ways.{changed}
-use Rattle.home.specs.HomeState.{HomeLine, HomeState, KeepsLine, brought_in, bytes_at, dropped_in, evicted_by, is_marked_by_others, line_place, marked_dirty_in, row_at, with_bytes_at}
+use Rattle.home.specs.HomeState.{HomeLine, HomeState, KeepsLine, brought_in, bytes_at, dropped_in, evicted_by, is_marked_by_others, line_place, marked_dirty_in, with_bytes_at}
 use Rattle.l1_cache.specs.L1State.{AreBytesOf, Copy, L1State, answered_in, copy_at, given_up_in, in_copies_of, instruction_given_up_in, kept_first_in, kept_with_in, letter_of, newer_bytes, no_l1, place_in_line, shared_in}
 use Rattle.shard.specs.BankSteps.{AreKnown, CanEvict, bank_with}
 use Rattle.shard.specs.Coherence.{is_alone, is_modified}
@@ -207,25 +207,37 @@ answered_as l1 line bytes free copy e =
     ap (λ (o : Option Copy). in_copies_of line (λ copies. option_map_or (λ copy. changed line (record copy { free = free; bytes = bytes }) copies) o copies) l1) e
 
 -- ---- a line leaves every L1
-given_rows : (line x : ℕ) (cores : List ℕ) (p : Bank) → row_at (given_up_by line cores p).home x ≡ row_at p.home x
-unfolding with_bytes_at row_at
-given_rows line x [] p = refl
-given_rows line x (core ∷ cores) p = given_rows line x cores (with_l1 core (given_up_in line) (collected line core p))
+-- A line that comes into the L2 first changes no bytes, and no L1.
+given_beside : (v line : ℕ) (cores : List ℕ) (p : Bank) → given_up_by v cores (with_home (brought_in line) p) ≡ with_home (brought_in line) (given_up_by v cores p)
+unfolding brought_in with_bytes_at bytes_at
+given_beside v line [] p = refl
+given_beside v line (core ∷ cores) p = given_beside v line cores (with_l1 core (given_up_in v) (collected v core p))
 
-instructions_rows : (line x : ℕ) (cores : List ℕ) (p : Bank) → row_at (instructions_given_up_by line cores p).home x ≡ row_at p.home x
-instructions_rows line x [] p = refl
-instructions_rows line x (core ∷ cores) p = instructions_rows line x cores (with_l1 core (instruction_given_up_in line) p)
+instructions_after : (v line : ℕ) (cores : List ℕ) (p : Bank) → instructions_given_up_by v cores (with_home (brought_in line) p) ≡ with_home (brought_in line) (instructions_given_up_by v cores p)
+instructions_after v line [] p = refl
+instructions_after v line (core ∷ cores) p = instructions_after v line cores (with_l1 core (instruction_given_up_in v) p)
 
-pub evicted_rows : (o : Option (ℕ × HomeLine)) (x : ℕ) (p : Bank) → row_at (evicted_everywhere o p).home x ≡ row_at p.home x
-evicted_rows None x p = refl
-evicted_rows (Some w) x p = instructions_rows w.0 x w.1.fetchers (given_up_by w.0 w.1.sharers p) ∙ given_rows w.0 x w.1.sharers p
+evicted_beside : (line : ℕ) (o : Option (ℕ × HomeLine)) (p : Bank) → evicted_everywhere o (with_home (brought_in line) p) ≡ with_home (brought_in line) (evicted_everywhere o p)
+evicted_beside line None p = refl
+evicted_beside line (Some w) p =
+    ap (instructions_given_up_by w.0 w.1.fetchers) (given_beside w.0 line w.1.sharers p) ∙ instructions_after w.0 line w.1.fetchers (given_up_by w.0 w.1.sharers p)
 
-pub brought_as : (home a now : HomeState) (l1s s : List L1State) (line : ℕ) (o : Option (ℕ × HomeLine)) → o ≡ evicted_by home line → bank_with a s ≡ evicted_everywhere o (bank_with home l1s) → now ≡ brought_in line a
+pub brought_as : (home a now : HomeState) (l1s s : List L1State) (line : ℕ) (o : Option (ℕ × HomeLine)) → o ≡ evicted_by home line → a ≡ brought_in line home → bank_with now s ≡ evicted_everywhere o (bank_with a l1s)
     → bank_with now s ≡ brought_home line (bank_with home l1s)
 unfolding brought_home
-brought_as home a now l1s s line o is left did =
-    home_then (brought_in line) a now s (evicted_everywhere (evicted_by home line) (bank_with home l1s)) did
-    (left ∙ ap (λ (o : Option (ℕ × HomeLine)). evicted_everywhere o (bank_with home l1s)) is)
+brought_as home a now l1s s line o is did left =
+    left
+    ∙ (ap (λ (h : HomeState). evicted_everywhere o (bank_with h l1s)) did
+    ∙ (evicted_beside line o (bank_with home l1s)
+    ∙ ap (λ (o : Option (ℕ × HomeLine)). with_home (brought_in line) (evicted_everywhere o (bank_with home l1s))) is))
+
+kept_brought : (home : HomeState) (line v : ℕ) → KeepsLine home v → KeepsLine (brought_in line home) v
+unfolding brought_in
+kept_brought home line v kept = kept
+
+pub can_after : (home : HomeState) (line : ℕ) (l1s : List L1State) (o : Option (ℕ × HomeLine)) → CanEvict home l1s o → CanEvict (brought_in line home) l1s o
+can_after home line l1s None can = tt
+can_after home line l1s (Some w) can = (kept_brought home line w.0 can.0, can.1, can.2)
 
 module _ (home now other : HomeState) (l1s s : List L1State) (core : ℕ) (request : Request) (bytes : List ℕ) (free : Bool) where
   abbrev p : Bank

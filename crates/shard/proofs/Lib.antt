@@ -1,8 +1,10 @@
 pub mod BankAsks
 pub mod BankLoads
 pub mod BankMet
+pub mod BankOwn
 pub mod BankReady
 pub mod BankSteps
+pub mod BankStores
 pub mod Coherent
 pub mod CoherentApart
 pub mod CoherentDirty
@@ -22,6 +24,7 @@ pub mod Kept
 pub mod L2Laws
 pub mod Reservations
 pub mod ShardSeen
+pub mod ServedAlone
 pub mod SomeCores
 pub mod StandsForAnswers
 pub mod StandsForApart

@@ -1,6 +1,7 @@
 //! All homes and L1s of a machine, for one worker that goes to each of them.
-ghost use Rattle.std.specs.Prelude.{ℕ, List, ◌≡◌, ◌+◌, ◌-◌, ◌^◌, ◌<◌, ◌≤◌, length, map, slice_index, slice_set, IfOk};
+ghost use Rattle.std.specs.Prelude.{ℕ, List, ◌≡◌, ◌+◌, ◌-◌, ◌^◌, ◌<◌, ◌≤◌, length, map, max, slice_index, slice_set, IfNone, IfOk, IfSome};
 ghost use Rattle.machine_desc.specs.Machine.{IsMachine};
+ghost use Rattle.zs_num.specs.declared.entry.Outcome.TheVariants.{Hit};
 ghost use Rattle.zs_num.specs.Request.{bank_of, line_at, line_bytes};
 ghost use Rattle.l1_cache.specs.L1State.{copy_at, newer_bytes};
 ghost use Rattle.shard.specs.Coherence.{dirty_at, fetch_holds, letter_at};
@@ -8,6 +9,7 @@ ghost use Rattle.shard.specs.Seen.{newest_in};
 ghost use Rattle.shard.specs.Served.{place_of, resumed, shard_after, shard_for, shard_of_line, CanServe, IsServedBy, KnowsCore};
 ghost use Rattle.shard.specs.StandsFor.{new_shards};
 
+use crate::alone::meet_alone;
 use crate::new_parts::{new_homes, new_l1s};
 use crate::shared::meet;
 use cache_set::Letter;
@@ -18,7 +20,7 @@ use l1_cache::L1;
 use machine_desc::Machine;
 use std::alloc::Global;
 use std::marker::Model;
-use zs_num::{Cycle, Entry, LINE, NoMemory, Request, Stamp};
+use zs_num::{Cycle, Entry, LINE, NoMemory, Outcome, Request, Stamp};
 
 /// How many lines an L1 finds by one comparison.
 const NEAR: u32 = 256;
@@ -78,8 +80,7 @@ impl Parts {
     {
         let bank = remainder(request.line(), self.homes.len() as u64) as usize;
         let (reply, outcome) = meet(&mut self.homes[bank], &mut self.l1s, core, request);
-        let stamp = self.lasts[bank].max(last) + 1;
-        self.lasts[bank] = stamp;
+        let stamp = next_stamp(&mut self.lasts[bank], last);
         Entry {
             core,
             stamp,
@@ -88,6 +89,40 @@ impl Parts {
             reply,
             outcome,
         }
+    }
+
+    /// The same where the core's own L1 can serve the access alone, which is a hit. None: nothing
+    /// changes. What is compiled for `T`, any type, is compiled for the callers that name it.
+    #[inline(always)]
+    pub fn serve_alone<T>(
+        &mut self,
+        core: u16,
+        start: Cycle,
+        last: Stamp,
+        request: Request,
+    ) -> Option<Entry>
+        requires shards { 0 < length self.old }
+        requires core { KnowsCore (shard_for self.old request) core }
+        requires can { CanServe (shard_for self.old request) request }
+        requires own_stamp { (shard_for self.old request).last < 2 ^ 62 - 1 }
+        requires stamp { last < 2 ^ 62 - 1 }
+        ensures served { IfSome result (λ entry. IsServedBy (shard_for self.old request) core start last request entry) }
+        ensures hit { IfSome result (λ entry. entry.outcome ≡ Hit) }
+        ensures after { IfSome result (λ entry. self.new ≡ slice_set self.old (bank_of (length self.old) request) (shard_after (shard_for self.old request) entry)) }
+        ensures none { IfNone result (self.new ≡ self.old) }
+        ensures shards { length self.new ≡ length self.old }
+    {
+        let bank = remainder(request.line(), self.homes.len() as u64) as usize;
+        let reply = meet_alone::<T>(&self.homes[bank], &mut self.l1s, core, request)?;
+        let stamp = next_stamp(&mut self.lasts[bank], last);
+        Some(Entry {
+            core,
+            stamp,
+            start,
+            request,
+            reply,
+            outcome: Outcome::Hit,
+        })
     }
 
     /// Sets the last stamps of all shards to 0, as at the beginning of an interval.
@@ -145,6 +180,20 @@ impl Parts {
             self.homes[bank].line_bytes(line)[place],
         )
     }
+}
+
+/// The stamp of an access, for a core whose latest stamp is `last`. `of_bank` is that of the latest
+/// access of its bank, and then its own.
+#[inline(always)]
+fn next_stamp(of_bank: &mut Stamp, last: Stamp) -> Stamp
+    requires own_stamp { of_bank.old < 2 ^ 62 - 1 }
+    requires stamp { last < 2 ^ 62 - 1 }
+    ensures stamp { result ≡ max of_bank.old last + 1 }
+    ensures kept { of_bank.new ≡ result }
+{
+    let stamp = (*of_bank).max(last) + 1;
+    *of_bank = stamp;
+    stamp
 }
 
 /// A byte of a line, where its home has this one: that of the L1 that has it in M, if one has.

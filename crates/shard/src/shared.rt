@@ -1,6 +1,6 @@
 //! What an access of a core does to the home of its line and to the L1s of the cores.
 ghost use Rattle.std.specs.Prelude.{◌≡◌, ◌+◌, ◌<◌, ◌≤◌, IfSome, Some, false, true, if◌then◌else◌, is_some, length, slice_index_or};
-ghost use Rattle.zs_num.specs.Request.{addr_of, line_bytes, width_of};
+ghost use Rattle.zs_num.specs.Request.{addr_of, line_bytes, line_of, width_of};
 ghost use Rattle.home.specs.HomeState.{evicted_by, row_at};
 ghost use Rattle.home.specs.Rows.{line_in};
 ghost use Rattle.l1_cache.specs.L1State.{has_instructions, is_private, no_l1, place_in_line, private_after, private_reply};
@@ -33,7 +33,7 @@ pub(crate) fn meet(home: &mut Home, l1s: &mut [L1], core: u16, request: Request)
     ensures outcome { result.1 ≡ met_at_bank (bank_with home.old l1s.old) core request }
     ensures cores { length l1s.new ≡ length l1s.old }
 {
-    if let Some(reply) = serve_alone_at(l1s, core, request) {
+    if let Some(reply) = serve_alone_at::<Home>(l1s, core, request) {
         return (reply, Outcome::Hit);
     }
     meet_shared(home, l1s, core, request)
@@ -41,7 +41,7 @@ pub(crate) fn meet(home: &mut Home, l1s: &mut [L1], core: u16, request: Request)
 
 /// Serves one that the core's own L1 can serve alone, or changes nothing.
 #[inline(always)]
-fn serve_alone_at(l1s: &mut [L1], core: u16, request: Request) -> Option<u64>
+pub(crate) fn serve_alone_at<T>(l1s: &mut [L1], core: u16, request: Request) -> Option<u64>
     requires core { core < length l1s.old }
     requires some { 1 ≤ width_of request }
     requires few { width_of request ≤ 8 }
@@ -51,7 +51,7 @@ fn serve_alone_at(l1s: &mut [L1], core: u16, request: Request) -> Option<u64>
     ensures after { bank_with no_home l1s.new ≡ with_l1 core (λ l1. if is_private l1 request then private_after l1 request else l1) (bank_with no_home l1s.old) }
     ensures cores { length l1s.new ≡ length l1s.old }
 {
-    l1s[usize::from(core)].serve_alone(request)
+    l1s[usize::from(core)].serve_alone::<T>(request)
 }
 
 /// Serves one that the core's own L1 can't serve alone.
@@ -69,7 +69,8 @@ fn meet_shared(home: &mut Home, l1s: &mut [L1], core: u16, request: Request) -> 
     if request.is_fetch() {
         return (0, meet_fetch(home, l1s, core, line));
     }
-    let outcome = make_ready(home, l1s, core, line, is_write(&request));
+    let letter = letter_met(l1s, core, &request);
+    let outcome = make_ready(home, l1s, core, line, is_write(&request), letter);
     (answer(home, l1s, core, request), outcome)
 }
 
@@ -82,9 +83,8 @@ fn meet_fetch(home: &mut Home, l1s: &mut [L1], core: u16, line: u64) -> Outcome
     ensures outcome { result ≡ fetch_outcome_by false (is_some (row_at home.old line)) (is_dirty_here (bank_with home.old l1s.old) (evicted_by home.old line)) }
     ensures cores { length l1s.new ≡ length l1s.old }
 {
-    match home.row(line) {
+    match home.meet(line) {
         Some(_) => {
-            home.look_up(line);
             bring_instruction(home, l1s, core, line);
             Outcome::L2 { others: false }
         }
@@ -98,15 +98,36 @@ fn meet_fetch(home: &mut Home, l1s: &mut [L1], core: u16, line: u64) -> Outcome
     }
 }
 
+/// The core's letter for the line of an access that its L1 can't serve alone. The L1 doesn't have
+/// the line of a load then.
+fn letter_met(l1s: &[L1], core: u16, request: &Request) -> Letter
+    requires core { core < length l1s.now }
+    requires shared { is_private (slice_index_or l1s.now core no_l1) request.now ≡ false }
+    ensures { result ≡ own_letter (bank_with no_home l1s.now) core (line_of request.now) }
+{
+    if let Request::Load { .. } = request {
+        return Letter::I;
+    }
+    letter_at(l1s, core, request.line())
+}
+
 /// A line stands first in a core's L1, with the letter that a read or a write leaves.
-fn make_ready(home: &mut Home, l1s: &mut [L1], core: u16, line: u64, write: bool) -> Outcome
+fn make_ready(
+    home: &mut Home,
+    l1s: &mut [L1],
+    core: u16,
+    line: u64,
+    write: bool,
+    letter: Letter,
+) -> Outcome
+    requires letter { letter ≡ own_letter (bank_with home.old l1s.old) core line }
     requires parts { AreParts (bank_with home.old l1s.old) }
     requires asks { AsksFor (bank_with home.old l1s.old) core line }
     ensures after { bank_with home.new l1s.new ≡ ready_by (own_letter (bank_with home.old l1s.old) core line) write core line (bank_with home.old l1s.old) }
     ensures outcome { result ≡ line_met (bank_with home.old l1s.old) core line write }
     ensures cores { length l1s.new ≡ length l1s.old }
 {
-    match letter_at(l1s, core, line) {
+    match letter {
         Letter::M => {
             keep_at(l1s, core, line, Letter::M);
             Outcome::Hit
@@ -146,9 +167,8 @@ fn upgrade(home: &mut Home, l1s: &mut [L1], core: u16, line: u64) -> Outcome
     ensures outcome { result ≡ line_met (bank_with home.old l1s.old) core line true }
     ensures cores { length l1s.new ≡ length l1s.old }
 {
-    match home.row(line) {
+    match home.meet(line) {
         Some(row) => {
-            home.look_up(line);
             leave_others(home, l1s, core, line, row);
             keep_at(l1s, core, line, Letter::M);
             home.own(line, core);
@@ -169,49 +189,30 @@ fn bring(home: &mut Home, l1s: &mut [L1], core: u16, line: u64, write: bool) -> 
     ensures outcome { result ≡ line_met (bank_with home.old l1s.old) core line write }
     ensures cores { length l1s.new ≡ length l1s.old }
 {
-    match home.row(line) {
-        Some(row) => bring_from_l2(home, l1s, core, line, write, row),
+    match home.meet(line) {
+        Some(row) => {
+            if write {
+                leave_others(home, l1s, core, line, row);
+                bring_own(home, l1s, core, line, Letter::M);
+                home.own(line, core);
+                Outcome::L2 {
+                    others: has_other(row, core),
+                }
+            } else {
+                let alone = row.sharers.is_empty();
+                share_others(home, l1s, line, row);
+                bring_own(home, l1s, core, line, letter_after(false, !alone));
+                home.grant(line, core, alone);
+                Outcome::L2 {
+                    others: row.alone && has_other(row, core),
+                }
+            }
+        }
         None => {
             let dirty_victim = bring_home(home, l1s, line);
             bring_own(home, l1s, core, line, letter_after(write, false));
             home.own(line, core);
             Outcome::Miss { dirty_victim }
-        }
-    }
-}
-
-/// The core doesn't have the line, and the L2 has it.
-fn bring_from_l2(
-    home: &mut Home,
-    l1s: &mut [L1],
-    core: u16,
-    line: u64,
-    write: bool,
-    row: Row,
-) -> Outcome
-    requires parts { AreParts (bank_with home.old l1s.old) }
-    requires asks { AsksFor (bank_with home.old l1s.old) core line }
-    requires own { own_letter (bank_with home.old l1s.old) core line ≡ Letter.I }
-    requires row { row_at home.old line ≡ Some (line_in row) }
-    ensures after { bank_with home.new l1s.new ≡ ready_from_l2 write core line (line_in row) (bank_with home.old l1s.old) }
-    ensures outcome { result ≡ line_met (bank_with home.old l1s.old) core line write }
-    ensures cores { length l1s.new ≡ length l1s.old }
-{
-    home.look_up(line);
-    if write {
-        leave_others(home, l1s, core, line, row);
-        bring_own(home, l1s, core, line, Letter::M);
-        home.own(line, core);
-        Outcome::L2 {
-            others: has_other(row, core),
-        }
-    } else {
-        let alone = row.sharers.is_empty();
-        share_others(home, l1s, line, row);
-        bring_own(home, l1s, core, line, letter_after(false, !alone));
-        home.grant(line, core, alone);
-        Outcome::L2 {
-            others: row.alone && has_other(row, core),
         }
     }
 }

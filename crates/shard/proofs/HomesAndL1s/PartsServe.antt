@@ -3,7 +3,7 @@ use Rattle.std.proofs.Common.{◌≡◌, ℕ, ◌+◌, ◌%◌, ◌<◌, ◌++�
 use Rattle.std.specs.List.{range_with_len}
 use Rattle.std.proofs.Math.Seq.{take-append_seam}
 use Rattle.std.proofs.lemmas.Bool.{cases_lt}
-use Rattle.std.proofs.lemmas.List.{get_or-replicate, get_or_past, length-replicate, length-set}
+use Rattle.std.proofs.lemmas.List.{get_or-replicate, get_or_past, length-replicate, length-set, set-get_or}
 use Rattle.std.proofs.lemmas.List.FromFn.{get_or-map-range_with_len, length-map-range_with_len}
 use Rattle.zs_num.specs.Request.{bank_of, line_of}
 use Rattle.zs_num.specs.declared.entry.Entry.{Entry}
@@ -185,6 +185,35 @@ module _ (w : PartsState) (are : AreAllParts w) (now : List ShardState) (view : 
             (served w are core request (asked_here knows can) start last stamp reply outcome
             (reply_is ∙ ap (λ (b : Bank). bank_reply b core request) met_is) (outcome_is ∙ ap (λ (b : Bank). met_at_bank b core request) met_is)
             (stamp_is ∙ ap (λ (x : ℕ). max x last + 1) stamp_of_bank))
+
+-- ---- the same of an access that changes nothing at home
+module _ (w : PartsState) (are : AreAllParts w) (now : List ShardState) (view : shards_seen w ≡ now) (core : ℕ) (request : Request)
+    (i : ℕ) (is : i ≡ bank_of (length w.homes) request) (home : HomeState) (home_is : home ≡ get_or w.homes i home) (l1s : List L1State) (l1s_is : l1s ≡ w.l1s)
+    (at : ℕ) (at_is : at ≡ get_or w.lasts i at) (knows : KnowsCore (shard_for now request) core) (can : CanServe (shard_for now request) request)
+    (l1s_then : List L1State) (after : record { home = home; l1s = l1s_then } ≡ bank_after (record { home = home; l1s = l1s }) core request)
+    (cores : length l1s_then ≡ length l1s) (n : ℕ) (n_is : n ≡ length w.l1s) (stamp : ℕ) where
+  abbrev with_homes : List HomeState → PartsState
+  with_homes homes = record { homes = homes; l1s = take n (l1s_then ++ drop (length l1s_then) w.l1s); lasts = set w.lasts i stamp }
+
+  same_homes : set w.homes i home ≡ w.homes
+  same_homes = ap (set w.homes i) home_is ∙ set-get_or w.homes i home
+
+  pub parts_alone : AreAllParts (with_homes w.homes)
+  parts_alone =
+      subst (λ (homes : List HomeState). AreAllParts (with_homes homes)) same_homes
+      (parts_then w are now view core request i is home home_is l1s l1s_is at at_is knows can home l1s_then after cores n n_is stamp)
+
+  module _ (start last reply : ℕ) where
+    abbrev hit : Entry
+    hit = record { core = core; stamp = stamp; start = start; request = request; reply = reply; outcome = Hit }
+
+    pub after_alone : shards_seen (with_homes w.homes) ≡ set now (bank_of (length now) request) (shard_after (shard_for now request) hit)
+    after_alone =
+        sym (ap (λ (homes : List HomeState). shards_seen (with_homes homes)) same_homes)
+        ∙ after_is w are now view core request i is home home_is l1s l1s_is at at_is knows can home l1s_then after cores n n_is stamp start last reply Hit
+
+    pub many_alone : length (shards_seen (with_homes w.homes)) ≡ length now
+    many_alone = ap (λ (shards : List ShardState). length shards) after_alone ∙ length-set now (bank_of (length now) request) (shard_after (shard_for now request) hit)
 
 -- ---- the last stamps begin anew
 map_after : {X Y Z : Type 0} (f : X → Y) (g : Y → Z) (xs : List X) → map g (map f xs) ≡ map (λ x. g (f x)) xs

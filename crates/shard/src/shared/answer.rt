@@ -1,9 +1,9 @@
 //! What an access reads of a line and writes to it.
 ghost use Rattle.std.specs.Prelude.{◌≡◌, ◌+◌, ◌<◌, ◌≤◌, ◌&&◌, IsSome, not, length, slice_index_or};
 ghost use Rattle.home.specs.HomeState.{is_marked_by_others};
-ghost use Rattle.l1_cache.specs.L1State.{answered_in, copy_at, no_l1, place_in_line, set_free_in};
+ghost use Rattle.l1_cache.specs.L1State.{answered_in, copy_at, no_l1, place_in_line, set_free_in, written_in};
 ghost use Rattle.zs_num.specs.Request.{addr_of, line_at, line_bytes, line_of, width_of};
-ghost use Rattle.zs_num.specs.declared.request.Request.TheVariants.{Load};
+ghost use Rattle.zs_num.specs.declared.request.Request.TheVariants.{Load, Store};
 ghost use Rattle.zs_num.specs.Servable.{IsAligned};
 ghost use Rattle.flat_memory.specs.FlatMemory.{after_write, number_in};
 ghost use Rattle.shard.specs.BankSteps.{bank_with};
@@ -36,6 +36,10 @@ pub(super) fn answer(home: &mut Home, l1s: &mut [L1], core: u16, request: Reques
     if let Request::Load { addr, width } = request {
         return answer_load(home, l1s, core, addr, width);
     }
+    if let Request::Store { addr, width, value } = request {
+        answer_store(home, l1s, core, addr, width, value);
+        return 0;
+    }
     answer_by_copy(home, l1s, core, request)
 }
 
@@ -55,6 +59,33 @@ fn answer_load(home: &Home, l1s: &mut [L1], core: u16, addr: u64, width: u8) -> 
     let free = is_free_at(home, l1s, core, line);
     set_free_at(l1s, core, line, free);
     reply
+}
+
+/// Serves a store where the line stands.
+fn answer_store(home: &mut Home, l1s: &mut [L1], core: u16, addr: u64, width: u8, value: u64)
+    requires core { core < length l1s.old }
+    requires there { IsSome (copy_at (slice_index_or l1s.old core no_l1) (line_at addr)) }
+    requires few { width ≤ 8 }
+    requires within { place_in_line addr + width ≤ line_bytes }
+    ensures after { bank_with home.new l1s.new ≡ answered core (Store addr width value) (bank_with home.old l1s.old) }
+    ensures cores { length l1s.new ≡ length l1s.old }
+{
+    end_other_marks(home, core, addr);
+    let free = is_free_at(home, l1s, core, addr / LINE);
+    write_at(l1s, core, addr, width, value, free);
+}
+
+/// Writes to a line that a core has. It is free to write from now on, or not.
+#[inline(always)]
+fn write_at(l1s: &mut [L1], core: u16, addr: u64, width: u8, value: u64, free: bool)
+    requires core { core < length l1s.old }
+    requires there { IsSome (copy_at (slice_index_or l1s.old core no_l1) (line_at addr)) }
+    requires few { width ≤ 8 }
+    requires within { place_in_line addr + width ≤ line_bytes }
+    ensures after { bank_with no_home l1s.new ≡ with_l1 core (written_in addr width value free) (bank_with no_home l1s.old) }
+    ensures cores { length l1s.new ≡ length l1s.old }
+{
+    l1s[usize::from(core)].write(addr, width, value, free);
 }
 
 /// Reads from the core's copy of a line.

@@ -22,31 +22,31 @@ pub(super) fn bring_home(home: &mut Home, l1s: &mut [L1], line: u64) -> bool
     ensures after { bank_with home.new l1s.new ≡ brought_home line (bank_with home.old l1s.old) }
     ensures cores { length l1s.new ≡ length l1s.old }
 {
-    let evicted = home.evicted(line);
-    let dirty = is_dirty(l1s, evicted);
-    evict_copies(home, l1s, evicted);
-    home.bring(line);
+    let evicted = home.enter(line);
+    let dirty = is_dirty(l1s, &evicted);
+    evict_copies(home, l1s, &evicted);
     dirty
 }
 
 /// Whether a line that the L2 evicts is dirty there, or modified in an L1.
-fn is_dirty(l1s: &[L1], evicted: Option<(u64, Row)>) -> bool
-    requires { IfSome evicted (λ evicted. AreKnown (evicted_in evicted).1.sharers l1s.now) }
-    ensures { result ≡ is_dirty_here (bank_with no_home l1s.now) (option_map evicted_in evicted) }
+fn is_dirty(l1s: &[L1], evicted: &Option<(u64, Row)>) -> bool
+    requires { IfSome evicted.now (λ evicted. AreKnown (evicted_in evicted).1.sharers l1s.now) }
+    ensures { result ≡ is_dirty_here (bank_with no_home l1s.now) (option_map evicted_in evicted.now) }
 {
     match evicted {
-        Some((line, row)) => row.dirty || is_modified_by(l1s, line, row.sharers),
+        Some((line, row)) => row.dirty || is_modified_by(l1s, *line, row.sharers),
         None => false,
     }
 }
 
 /// A line that the L2 evicts leaves every L1.
-fn evict_copies(home: &mut Home, l1s: &mut [L1], evicted: Option<(u64, Row)>)
-    requires { CanEvict home.old l1s.old (option_map evicted_in evicted) }
-    ensures after { bank_with home.new l1s.new ≡ evicted_everywhere (option_map evicted_in evicted) (bank_with home.old l1s.old) }
+fn evict_copies(home: &mut Home, l1s: &mut [L1], evicted: &Option<(u64, Row)>)
+    requires { CanEvict home.old l1s.old (option_map evicted_in evicted.now) }
+    ensures after { bank_with home.new l1s.new ≡ evicted_everywhere (option_map evicted_in evicted.now) (bank_with home.old l1s.old) }
     ensures cores { length l1s.new ≡ length l1s.old }
 {
     if let Some((line, row)) = evicted {
+        let line = *line;
         give_up(home, l1s, line, row.sharers);
         give_up_instructions(l1s, line, row.fetchers);
     }
@@ -60,6 +60,9 @@ pub(super) fn leave_others(home: &mut Home, l1s: &mut [L1], core: u16, line: u64
 {
     let mut others = row.sharers;
     others.remove(core);
+    if others.is_empty() {
+        return;
+    }
     dirty_by(home, l1s, line, others);
     give_up(home, l1s, line, others);
 }
@@ -119,8 +122,23 @@ pub(super) fn letter_at(l1s: &[L1], core: u16, line: u64) -> Letter
     l1s[usize::from(core)].letter(line)
 }
 
-/// These cores give a line up.
+/// These cores give a line up. Mostly it is none.
+#[inline(always)]
 fn give_up(home: &mut Home, l1s: &mut [L1], line: u64, cores: CoreSet)
+    requires kept { KeepsLine home.old line }
+    requires known { AreKnown (cores_in cores.words) l1s.old }
+    ensures after { bank_with home.new l1s.new ≡ given_up_by line (cores_in cores.words) (bank_with home.old l1s.old) }
+    ensures cores { length l1s.new ≡ length l1s.old }
+{
+    if cores.is_empty() {
+        return;
+    }
+    give_up_each(home, l1s, line, cores);
+}
+
+/// The same, one core after the other.
+#[inline(never)]
+fn give_up_each(home: &mut Home, l1s: &mut [L1], line: u64, cores: CoreSet)
     requires kept { KeepsLine home.old line }
     requires known { AreKnown (cores_in cores.words) l1s.old }
     ensures after { bank_with home.new l1s.new ≡ given_up_by line (cores_in cores.words) (bank_with home.old l1s.old) }
@@ -196,7 +214,7 @@ fn give_up_instruction_at(l1s: &mut [L1], core: u16, line: u64)
 }
 
 /// What a core wrote to a line goes home.
-pub(super) fn collect(home: &mut Home, l1: &L1, line: u64)
+fn collect(home: &mut Home, l1: &L1, line: u64)
     requires { KeepsLine home.old line }
     ensures after { home.new ≡ with_bytes_at line (newer_bytes (copy_at l1.now line) (bytes_at home.old line)) home.old }
     ensures long { length home.new.bytes ≡ length home.old.bytes }

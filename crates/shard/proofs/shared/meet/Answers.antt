@@ -1,4 +1,4 @@
-use Rattle.std.proofs.Common.{◌≡◌, List, is_some, true, false, sym, ap, ◌∙◌, subst}
+use Rattle.std.proofs.Common.{◌≡◌, List, is_some, false, sym, ap, ◌∙◌, subst}
 use Rattle.l1_cache.specs.L1State.{L1State, is_private, no_l1}
 use Rattle.std.specs.Prelude.{slice_index_or}
 use Rattle.shard.specs.BankSteps.{bank_with}

@@ -1,4 +1,4 @@
-use Rattle.std.proofs.Common.{◌≡◌, ◌<◌, ℕ, List, Bool, Option, false, is_some, length, sym, ap, ◌∙◌, subst}
+use Rattle.std.proofs.Common.{◌<◌, ℕ, List, Bool, Option, false, is_some, length, sym, ap, ◌∙◌, subst}
 use Rattle.std.specs.Prelude.{IsSome, slice_index_or}
 use Rattle.flat_memory.specs.declared.reservation.Reservation.{Reservation}
 use Rattle.zs_num.specs.Request.{addr_of, line_of}

@@ -1,4 +1,4 @@
-use Rattle.std.proofs.Common.{◌+◌, length, arith}
+use Rattle.std.proofs.Common.{length, arith}
 use Rattle.shard.specs.Seen.{PartsState}
 use Rattle.shard.proofs.HomesAndL1s.PartsServe.{after_is, as_many, by_remainder, can_ask, can_meet, latest, parts_then, served_is}
 use Rattle.shard.proofs.parts.Parts.serve.Goals as goal
@@ -15,37 +15,37 @@ meet-reply-requires-clause-asked c =
     let bank = by_remainder c.len.result (length c.self.inside.homes.items) c.line.result c.remainder-bank.result c.args.request c.remainder-bank.ensures c.line.ensures (omega arith) in
     can_ask w c.self.invariant c.args.self.now c.self.view_is c.args.core c.args.request c.remainder-bank.result bank c.index_mut.result.now c.index_mut.ensures.value c.deref_mut.result.now c.deref_mut.ensures.value c.requires.core c.requires.can
 
-pub overflow_add-stamp : goal.overflow_add-stamp
-overflow_add-stamp c =
+pub next_stamp-stamp-requires-clause-own_stamp : goal.next_stamp-stamp-requires-clause-own_stamp
+next_stamp-stamp-requires-clause-own_stamp c =
     let w : PartsState = record { homes = c.self.inside.homes.items; l1s = c.self.inside.l1s.items; lasts = c.self.inside.lasts.items } in
     let bank = by_remainder c.len.result (length c.self.inside.homes.items) c.line.result c.remainder-bank.result c.args.request c.remainder-bank.ensures c.line.ensures (omega arith) in
-    let at = latest w c.self.invariant c.args.self.now c.self.view_is c.args.core c.args.request c.remainder-bank.result bank c.index_mut.result.now c.index_mut.ensures.value c.deref_mut.result.now c.deref_mut.ensures.value c.index.result.now c.index.ensures in
-    omega (arith, at, c.requires.own_stamp, c.requires.stamp, c.max-stamp.ensures)
+    let at = latest w c.self.invariant c.args.self.now c.self.view_is c.args.core c.args.request c.remainder-bank.result bank c.index_mut.result.now c.index_mut.ensures.value c.deref_mut.result.now c.deref_mut.ensures.value c.index_mut-2.result.now c.index_mut-2.ensures.value in
+    omega (arith, at, c.requires.own_stamp)
 
 pub invariant_of-self : goal.invariant_of-self
 invariant_of-self c =
     let w : PartsState = record { homes = c.self.inside.homes.items; l1s = c.self.inside.l1s.items; lasts = c.self.inside.lasts.items } in
     let bank = by_remainder c.len.result (length c.self.inside.homes.items) c.line.result c.remainder-bank.result c.args.request c.remainder-bank.ensures c.line.ensures (omega arith) in
-    parts_then w c.self.invariant c.args.self.now c.self.view_is c.args.core c.args.request c.remainder-bank.result bank c.index_mut.result.now c.index_mut.ensures.value c.deref_mut.result.now c.deref_mut.ensures.value
-    c.index.result.now c.index.ensures c.requires.core c.requires.can c.meet-reply.new.home c.meet-reply.new.l1s c.meet-reply.ensures.after c.meet-reply.ensures.cores c.self.inside.l1s.len (omega arith) (c.max-stamp.result + 1)
+    rw (c.next_stamp-stamp.ensures.kept) (parts_then w c.self.invariant c.args.self.now c.self.view_is c.args.core c.args.request c.remainder-bank.result bank c.index_mut.result.now c.index_mut.ensures.value c.deref_mut.result.now c.deref_mut.ensures.value
+    c.index_mut-2.result.now c.index_mut-2.ensures.value c.requires.core c.requires.can c.meet-reply.new.home c.meet-reply.new.l1s c.meet-reply.ensures.after c.meet-reply.ensures.cores c.self.inside.l1s.len (omega arith) c.next_stamp-stamp.result)
 
 pub returns-clause-served : goal.returns-clause-served
 returns-clause-served c =
     let w : PartsState = record { homes = c.self.inside.homes.items; l1s = c.self.inside.l1s.items; lasts = c.self.inside.lasts.items } in
     let bank = by_remainder c.len.result (length c.self.inside.homes.items) c.line.result c.remainder-bank.result c.args.request c.remainder-bank.ensures c.line.ensures (omega arith) in
     served_is w c.self.invariant c.args.self.now c.self.view_is c.args.core c.args.request c.remainder-bank.result bank c.index_mut.result.now c.index_mut.ensures.value c.deref_mut.result.now c.deref_mut.ensures.value
-    c.index.result.now c.index.ensures c.requires.core c.requires.can c.meet-reply.new.home c.meet-reply.new.l1s c.meet-reply.ensures.after c.meet-reply.ensures.cores c.self.inside.l1s.len (omega arith) (c.max-stamp.result + 1) c.args.start c.args.last c.meet-reply.result.0 c.meet-reply.result.1 c.meet-reply.ensures.reply c.meet-reply.ensures.outcome (omega (arith, c.max-stamp.ensures))
+    c.index_mut-2.result.now c.index_mut-2.ensures.value c.requires.core c.requires.can c.meet-reply.new.home c.meet-reply.new.l1s c.meet-reply.ensures.after c.meet-reply.ensures.cores c.self.inside.l1s.len (omega arith) c.next_stamp-stamp.result c.args.start c.args.last c.meet-reply.result.0 c.meet-reply.result.1 c.meet-reply.ensures.reply c.meet-reply.ensures.outcome c.next_stamp-stamp.ensures.stamp
 
 pub returns-clause-after : goal.returns-clause-after
 returns-clause-after c =
     let w : PartsState = record { homes = c.self.inside.homes.items; l1s = c.self.inside.l1s.items; lasts = c.self.inside.lasts.items } in
     let bank = by_remainder c.len.result (length c.self.inside.homes.items) c.line.result c.remainder-bank.result c.args.request c.remainder-bank.ensures c.line.ensures (omega arith) in
-    after_is w c.self.invariant c.args.self.now c.self.view_is c.args.core c.args.request c.remainder-bank.result bank c.index_mut.result.now c.index_mut.ensures.value c.deref_mut.result.now c.deref_mut.ensures.value
-    c.index.result.now c.index.ensures c.requires.core c.requires.can c.meet-reply.new.home c.meet-reply.new.l1s c.meet-reply.ensures.after c.meet-reply.ensures.cores c.self.inside.l1s.len (omega arith) (c.max-stamp.result + 1) c.args.start c.args.last c.meet-reply.result.0 c.meet-reply.result.1
+    rw (c.next_stamp-stamp.ensures.kept) (after_is w c.self.invariant c.args.self.now c.self.view_is c.args.core c.args.request c.remainder-bank.result bank c.index_mut.result.now c.index_mut.ensures.value c.deref_mut.result.now c.deref_mut.ensures.value
+    c.index_mut-2.result.now c.index_mut-2.ensures.value c.requires.core c.requires.can c.meet-reply.new.home c.meet-reply.new.l1s c.meet-reply.ensures.after c.meet-reply.ensures.cores c.self.inside.l1s.len (omega arith) c.next_stamp-stamp.result c.args.start c.args.last c.meet-reply.result.0 c.meet-reply.result.1)
 
 pub returns-clause-shards : goal.returns-clause-shards
 returns-clause-shards c =
     let w : PartsState = record { homes = c.self.inside.homes.items; l1s = c.self.inside.l1s.items; lasts = c.self.inside.lasts.items } in
     let bank = by_remainder c.len.result (length c.self.inside.homes.items) c.line.result c.remainder-bank.result c.args.request c.remainder-bank.ensures c.line.ensures (omega arith) in
-    as_many w c.self.invariant c.args.self.now c.self.view_is c.args.core c.args.request c.remainder-bank.result bank c.index_mut.result.now c.index_mut.ensures.value c.deref_mut.result.now c.deref_mut.ensures.value
-    c.index.result.now c.index.ensures c.requires.core c.requires.can c.meet-reply.new.home c.meet-reply.new.l1s c.meet-reply.ensures.after c.meet-reply.ensures.cores c.self.inside.l1s.len (omega arith) (c.max-stamp.result + 1) c.args.start c.args.last c.meet-reply.result.0 c.meet-reply.result.1
+    rw (c.next_stamp-stamp.ensures.kept) (as_many w c.self.invariant c.args.self.now c.self.view_is c.args.core c.args.request c.remainder-bank.result bank c.index_mut.result.now c.index_mut.ensures.value c.deref_mut.result.now c.deref_mut.ensures.value
+    c.index_mut-2.result.now c.index_mut-2.ensures.value c.requires.core c.requires.can c.meet-reply.new.home c.meet-reply.new.l1s c.meet-reply.ensures.after c.meet-reply.ensures.cores c.self.inside.l1s.len (omega arith) c.next_stamp-stamp.result c.args.start c.args.last c.meet-reply.result.0 c.meet-reply.result.1)

@@ -12,3 +12,8 @@ unfolding reply_from
 returns-in-Load-clause-reply c =
     c.answer_load.ensures.reply
     ∙ sym (ap (λ (r : Request). reply_from (bytes_of (copy_at (slice_index_or c.args.l1s.now c.args.core no_l1) (line_of r))) (place_in_line (addr_of r)) c.args.home.now.marks c.args.core r) c.in-Load.is)
+
+pub returns-in-Store-clause-reply : goal.returns-in-Store-clause-reply
+unfolding reply_from
+returns-in-Store-clause-reply c =
+    sym (ap (λ (r : Request). reply_from (bytes_of (copy_at (slice_index_or c.args.l1s.now c.args.core no_l1) (line_of r))) (place_in_line (addr_of r)) c.args.home.now.marks c.args.core r) c.in-Store.is)

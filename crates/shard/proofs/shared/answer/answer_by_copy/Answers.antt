@@ -1,6 +1,6 @@
 use Rattle.std.proofs.Common.{◌≡◌, ◌&&◌, ℕ, List, not, ap, ◌∙◌, subst}
 use Rattle.std.specs.Prelude.{slice_index_or}
-use Rattle.zs_num.specs.Request.{addr_of, line_of}
+use Rattle.zs_num.specs.Request.{line_of}
 use Rattle.home.specs.HomeState.{is_marked_by_others}
 use Rattle.l1_cache.specs.L1State.{answered_in, copy_at, no_l1, place_in_line}
 use Rattle.shard.specs.BankSteps.{bank_with}

@@ -1,4 +1,4 @@
-use Rattle.std.proofs.Common.{◌≡◌, ℕ, length}
+use Rattle.std.proofs.Common.{◌≡◌, length}
 use Rattle.mesi_dir.specs.CoreSets.{cores_in}
 use Rattle.shard.specs.BankSteps.{bank_with, AreKnown}
 use Rattle.shard.specs.Seen.{no_home}

@@ -1,5 +1,3 @@
-use Rattle.home.specs.HomeState.{bytes_at}
-use Rattle.l1_cache.specs.L1State.{copy_at, newer_bytes}
 use Rattle.shard.proofs.BankSteps.{kept_still}
 use Rattle.shard.proofs.shared.others.share_at.Goals as goal
 

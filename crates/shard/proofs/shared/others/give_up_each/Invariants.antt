@@ -1,9 +1,9 @@
-use Rattle.std.proofs.Common.{◌≡◌, ℕ, length}
+use Rattle.std.proofs.Common.{◌≡◌, length}
 use Rattle.home.specs.HomeState.{KeepsLine}
 use Rattle.mesi_dir.specs.CoreSets.{cores_in}
 use Rattle.shard.specs.BankSteps.{bank_with, AreKnown}
 use Rattle.shard.specs.SharedStep.{given_up_by}
-use Rattle.shard.proofs.shared.others.give_up.Given as goal
+use Rattle.shard.proofs.shared.others.give_up_each.Given as goal
 
 abbrev pub decreases-loop-core : goal.decreases-loop-core
 decreases-loop-core l = length (cores_in l.cores.words)

@@ -1,6 +1,0 @@
-use Rattle.std.proofs.Common.{ℕ, List, length, ap, ◌∙◌}
-use Rattle.shard.proofs.BankSteps.{long_at}
-use Rattle.shard.proofs.shared.own.take_at.Goals as goal
-
-pub take_in-requires-clause-bytes : goal.take_in-requires-clause-bytes
-take_in-requires-clause-bytes c = ap (λ (b : List ℕ). length b) c.line_bytes.ensures ∙ long_at c.args.home.now c.args.line c.requires.kept
