@@ -44,6 +44,7 @@ impl Component for Bank {
         }
     }
 
+    #[inline(always)]
     fn floor(&self, kind: Kind) -> u64 {
         match kind {
             Kind::Lookup => self.lookup,
@@ -53,6 +54,7 @@ impl Component for Bank {
         }
     }
 
+    #[inline(always)]
     fn step(&mut self, kind: Kind, start: Cycle) -> Cycle {
         let latency = self.floor(kind);
         let served = start.max(self.free);

@@ -53,6 +53,7 @@ impl Component for Comp {
         }
     }
 
+    #[inline(always)]
     fn floor(&self, kind: Kind) -> u64 {
         match self {
             Comp::Bank(bank) => bank.floor(kind),
@@ -62,6 +63,7 @@ impl Component for Comp {
         }
     }
 
+    #[inline(always)]
     fn step(&mut self, kind: Kind, start: Cycle) -> Cycle {
         match self {
             Comp::Bank(bank) => bank.step(kind, start),

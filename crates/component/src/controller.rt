@@ -40,6 +40,7 @@ impl Component for Controller {
         }
     }
 
+    #[inline(always)]
     fn floor(&self, kind: Kind) -> u64 {
         match kind {
             Kind::Read => self.read,
@@ -48,6 +49,7 @@ impl Component for Controller {
         }
     }
 
+    #[inline(always)]
     fn step(&mut self, kind: Kind, start: Cycle) -> Cycle {
         let latency = self.floor(kind);
         let served = start.max(self.free);

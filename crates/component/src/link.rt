@@ -38,6 +38,7 @@ impl Component for Link {
         }
     }
 
+    #[inline(always)]
     fn floor(&self, kind: Kind) -> u64 {
         match kind {
             Kind::Hop => self.hop,
@@ -45,6 +46,7 @@ impl Component for Link {
         }
     }
 
+    #[inline(always)]
     fn step(&mut self, kind: Kind, start: Cycle) -> Cycle {
         let latency = self.floor(kind);
         let served = start.max(self.free);

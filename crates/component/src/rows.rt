@@ -33,6 +33,7 @@ impl Component for Rows {
         }
     }
 
+    #[inline(never)]
     fn step(&mut self, kind: Kind, start: Cycle) -> Cycle {
         match kind {
             Kind::RowRead { bank, row } => self.read(bank, row, start),

@@ -1,6 +1,8 @@
 //! What an access goes through.
 ghost use Rattle.std.specs.Prelude.{◌≡◌};
 ghost use Rattle.machine_desc.specs.Machine.{IsMachine};
+ghost use Rattle.zs_num.specs.declared.request.Request.{Request};
+ghost use Rattle.zs_num.specs.Request.{is_fetch};
 ghost use Rattle.event_graph.specs.AccessPaths.{head_time, path_of};
 ghost use Rattle.event_graph.specs.PathInRange.{IsAccessPath};
 ghost use Rattle.event_graph.specs.Timing.{bank_component, controller_component};
@@ -44,6 +46,7 @@ impl AccessPath {
 
     /// The time that an access takes first, in cycles: in the instruction cache, if it is a fetch
     /// and there is one, and else in the data cache.
+    #[inline(always)]
     pub fn head(&self, entry: &Entry) -> u64
         ensures { result ≡ head_time self.now entry.now.request }
     {
@@ -53,7 +56,18 @@ impl AccessPath {
         })
     }
 
+    /// The same of a fetch, or of any other access.
+    pub fn head_of(&self, fetch: bool) -> u64
+        ensures { (request : Request) → is_fetch request ≡ fetch → head_time self.now request ≡ result }
+    {
+        u64::from(match self.l1i {
+            Some(l1i) if fetch => l1i.latency,
+            _ => self.l1.latency,
+        })
+    }
+
     /// The bank that has the line of an access, which is the component of that number.
+    #[inline(always)]
     pub fn bank(&self, entry: &Entry) -> u16
         requires { IsAccessPath self.now }
         ensures { result ≡ bank_component self.now.l2 entry.now }
@@ -62,6 +76,7 @@ impl AccessPath {
     }
 
     /// The component that is the controller behind the bank of an access.
+    #[inline(always)]
     pub fn controller(&self, entry: &Entry) -> u16
         requires { IsAccessPath self.now }
         ensures { result ≡ controller_component self.now.l2 self.now.controllers entry.now }

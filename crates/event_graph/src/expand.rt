@@ -2,6 +2,8 @@
 ghost use Rattle.std.specs.Prelude.{◌≡◌, ◌<◌, ◌≤◌, ◌^◌, ℕ, List, length, Option, Some, slice_get};
 ghost use Rattle.component.specs.declared.kind.Kind.{Kind};
 ghost use Rattle.zs_num.specs.declared.entry.Entry.{Entry};
+ghost use Rattle.zs_num.specs.declared.entry.Outcome.TheVariants as outcome;
+ghost use Rattle.zs_num.specs.Request.{is_fetch};
 ghost use Rattle.event_graph.specs.declared.piece.Piece.{Piece};
 ghost use Rattle.event_graph.specs.Expansion.{ParentsComeBefore, OnlyFirstStartsAlone, ParentsFinishBefore, EndsAt, HaveFloors};
 
@@ -32,6 +34,10 @@ pub trait Expand {
     /// The time of an access at zero load, in cycles.
     fn time(&self, entry: &Entry) -> u64
         ensures { result ≡ time self.now entry.now };
+
+    /// The time of a hit, in cycles: of a fetch, or of any other access.
+    fn hit_time(&self, fetch: bool) -> u64
+        ensures { (e : Entry) → e.outcome ≡ outcome.Hit → is_fetch e.request ≡ fetch → time self.now e ≡ result };
 
     /// An access takes a cycle at least, and not long.
     ghost time_at_least_one: { (x : Self) (e : Entry) → 1 ≤ time x e };

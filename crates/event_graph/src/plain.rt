@@ -31,6 +31,7 @@ impl Plain {
         }
     }
 
+    #[inline(always)]
     fn look_up(&self, entry: &Entry, others: bool) -> Piece
         ensures { result ≡ look_up (head_time self.now.path entry.now.request) self.now.path.l2 self.now.path.controllers (bank_component self.now.path.l2 entry.now) (controller_component self.now.path.l2 self.now.path.controllers entry.now) others }
     {
@@ -49,6 +50,7 @@ impl Plain {
         }
     }
 
+    #[inline(always)]
     fn read(&self, entry: &Entry) -> Piece
         ensures { result ≡ read (head_time self.now.path entry.now.request) self.now.path.l2 self.now.path.controllers (bank_component self.now.path.l2 entry.now) (controller_component self.now.path.l2 self.now.path.controllers entry.now) }
     {
@@ -62,6 +64,7 @@ impl Plain {
         }
     }
 
+    #[inline(always)]
     fn write(&self, entry: &Entry) -> Piece
         ensures { result ≡ write (head_time self.now.path entry.now.request) self.now.path.l2 self.now.path.controllers (bank_component self.now.path.l2 entry.now) (controller_component self.now.path.l2 self.now.path.controllers entry.now) }
     {
@@ -76,6 +79,7 @@ impl Plain {
     }
 
     /// How long a miss waits for memory; `dirty`: a line is written back beside the read.
+    #[inline(always)]
     fn memory_time(&self, dirty: bool) -> u64
         ensures { result ≡ memory_time self.now.path.controllers dirty }
     {
@@ -86,6 +90,7 @@ impl Plain {
         }
     }
 
+    #[inline(always)]
     fn fill(&self, entry: &Entry, dirty: bool) -> Piece
         ensures { result ≡ fill (head_time self.now.path entry.now.request) self.now.path.l2 self.now.path.controllers (bank_component self.now.path.l2 entry.now) (controller_component self.now.path.l2 self.now.path.controllers entry.now) dirty }
     {
@@ -115,6 +120,7 @@ impl Expand for Plain {
 
     ghost floors = { λ x. plain_floor x.path.l2 x.path.controllers };
 
+    #[inline(always)]
     fn count(&self, entry: &Entry) -> u16 {
         match entry.outcome {
             Outcome::Hit => 0,
@@ -126,6 +132,7 @@ impl Expand for Plain {
         }
     }
 
+    #[inline(always)]
     fn piece(&self, entry: &Entry, place: u16) -> Piece {
         match entry.outcome {
             Outcome::Hit => unreachable!(),
@@ -151,6 +158,10 @@ impl Expand for Plain {
                 head + latency + self.memory_time(dirty_victim) + u64::from(self.path.l2.fill)
             }
         }
+    }
+
+    fn hit_time(&self, fetch: bool) -> u64 {
+        self.path.head_of(fetch)
     }
 
     ghost time_at_least_one = { λ x e. plain_time_at_least_one x.path x.in_range e };

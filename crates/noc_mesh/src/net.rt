@@ -1,6 +1,8 @@
 //! The events of an access in a machine whose components a mesh joins, or none.
 ghost use Rattle.std.proofs.Props.{props};
+ghost use Rattle.std.specs.Prelude.{◌≡◌, ◌<◌, Some, length, slice_get};
 ghost use Rattle.event_graph.specs.PathInRange.{IsAccessPath};
+ghost use Rattle.noc_mesh.specs.NetTiming.{net_pieces};
 
 use crate::{course, events, laws};
 use event_graph::{AccessPath, Expand, Piece, Plain};
@@ -31,6 +33,7 @@ impl Net {
     }
 
     /// Whether it is the plain expansion, which is quicker to ask.
+    #[inline(always)]
     fn is_plain(&self) -> bool
         ensures { result ≡ (is_none self.now.path.mesh && is_none self.now.path.dram) }
     {
@@ -38,6 +41,7 @@ impl Net {
     }
 
     /// The plain expansion.
+    #[inline(always)]
     fn plain(&self) -> Plain
         ensures { result.path ≡ self.now.path }
     {
@@ -58,6 +62,32 @@ impl Net {
     }
 }
 
+/// How many events an access has on its way over the mesh, or to open rows. It takes the access by
+/// value: where there is no such way, nobody has to put it together.
+#[inline(never)]
+fn count_beyond(path: &AccessPath, entry: Entry) -> u16
+    requires { IsAccessPath path.now }
+    ensures { result ≡ length (net_pieces path.now entry) }
+{
+    course::ended(path, &entry).events
+}
+
+/// The event at a place of such an access.
+#[inline(never)]
+fn piece_beyond(path: &AccessPath, entry: Entry, place: u16) -> Piece
+    requires path { IsAccessPath path.now }
+    requires place { place < length (net_pieces path.now entry) }
+    ensures { slice_get (net_pieces path.now entry) place ≡ Some result }
+{
+    match entry.outcome {
+        Outcome::Hit => unreachable!(),
+        Outcome::Upgrade { others } | Outcome::L2 { others } => {
+            events::answered(path, &entry, others, place)
+        }
+        Outcome::Miss { dirty_victim } => events::missed(path, &entry, dirty_victim, place),
+    }
+}
+
 impl Expand for Net {
     ghost use Rattle.noc_mesh.specs.NetTiming.{net_pieces, net_time};
     ghost use Rattle.noc_mesh.specs.NetFloors.{net_floor};
@@ -69,27 +99,30 @@ impl Expand for Net {
 
     ghost floors = { λ x. net_floor x.path };
 
+    #[inline(always)]
     fn count(&self, entry: &Entry) -> u16 {
         laws::nets_without_a_mesh_are_plain();
         if self.is_plain() {
             self.plain().count(entry)
         } else {
-            course::ended(&self.path, entry).events
+            count_beyond(&self.path, *entry)
         }
     }
 
+    #[inline(always)]
     fn piece(&self, entry: &Entry, place: u16) -> Piece {
         laws::nets_without_a_mesh_are_plain();
         if self.is_plain() {
-            return self.plain().piece(entry, place);
-        }
-        match entry.outcome {
-            Outcome::Hit => unreachable!(),
-            Outcome::Upgrade { others } | Outcome::L2 { others } => {
-                events::answered(&self.path, entry, others, place)
-            }
-            Outcome::Miss { dirty_victim } => {
-                events::missed(&self.path, entry, dirty_victim, place)
+            self.plain().piece(entry, place)
+        } else {
+            let piece = piece_beyond(&self.path, *entry, place);
+            Piece {
+                component: piece.component,
+                kind: piece.kind,
+                offset: piece.offset,
+                time: piece.time,
+                first: piece.first,
+                second: piece.second,
             }
         }
     }
@@ -100,6 +133,10 @@ impl Expand for Net {
             Outcome::Hit => self.path.head(entry),
             _ => self.time_beyond(entry),
         }
+    }
+
+    fn hit_time(&self, fetch: bool) -> u64 {
+        self.path.head_of(fetch)
     }
 
     ghost time_at_least_one = { λ x e. net_time_at_least_one x.path x.in_range e };
