@@ -1,54 +1,44 @@
 //! Gates of a weave that may begin again.
 use std::sync::atomic::{AtomicU64, Ordering};
+use weave_chains::ChainBuffers;
 use zs_host::{Gate, Point};
 
 /// How many domains a machine has at most.
 const DOMAINS: usize = 64;
 
-/// A gate before the events of a weave that may have to begin again. It counts them by their
-/// domains. No answer depends on what it counts.
-#[derive(Drop)]
-pub struct FirstPasses<'a, G: Gate> {
-    gate: &'a G,
-    counts: [AtomicU64; DOMAINS],
-}
-
-/// The same gate before the events of the weave that began again: of each domain as many as have
-/// passed before go on at once, so that in all as many of it pass as fire. Which of its events
-/// these are makes no difference: the gate is told of the domain alone.
+/// A gate before the events of a weave that may be the second of an interval: of each domain as
+/// many as have passed before go on at once, so that in all as many of it pass as fire. Which of
+/// its events these are makes no difference: the gate is told of the domain alone. No answer
+/// depends on what it counts.
 #[derive(Drop)]
 pub struct LaterPasses<'a, G: Gate> {
     gate: &'a G,
     left: [AtomicU64; DOMAINS],
 }
 
-impl<'a, G: Gate> FirstPasses<'a, G> {
-    /// A gate that nobody has passed.
-    pub fn of(gate: &'a G) -> Self {
-        FirstPasses {
+impl<'a, G: Gate> LaterPasses<'a, G> {
+    /// The gate for a weave in order. Where a weave core by core came to a tie before (`begun`), the
+    /// events that it fired have passed the gate. `places` has the domain of each component.
+    pub fn behind(gate: &'a G, begun: bool, places: &[u16], buffers: &ChainBuffers) -> Self {
+        let later = LaterPasses {
             gate,
-            counts: std::array::from_fn(|_| AtomicU64::new(0)),
+            left: std::array::from_fn(|_| AtomicU64::new(0)),
+        };
+        if begun {
+            for component in 0..places.len() {
+                later.let_pass(places[component], buffers.fired(component));
+            }
         }
+        later
     }
 
-    /// The gate for the weave that begins again.
-    pub fn later(self) -> LaterPasses<'a, G> {
-        LaterPasses {
-            gate: self.gate,
-            left: self.counts,
+    /// So many events more of a domain go on at once.
+    fn let_pass(&self, domain: u16, events: u64) {
+        if let Some(left) = self.left.get(usize::from(domain)) {
+            // One thread alone counts, so this needs no atomic sum.
+            let before = left.load(Ordering::Relaxed);
+            left.store(before.wrapping_add(events), Ordering::Relaxed);
         }
-    }
-}
-
-impl<'a, G: Gate> Gate for FirstPasses<'a, G> {
-    #[inline(always)]
-    fn pass(&self, worker: u16, point: Point) {
-        if let Some(passed) = of_domain(&self.counts, point) {
-            // One thread alone passes, so this needs no atomic sum.
-            let count = passed.load(Ordering::Relaxed);
-            passed.store(count.wrapping_add(1), Ordering::Relaxed);
-        }
-        self.gate.pass(worker, point);
     }
 }
 

@@ -14,7 +14,7 @@ ghost use Rattle.replay.specs.Records.{FitsIn, IsRecorded, IsTakenIn, accesses_i
 
 use crate::Recording;
 use crate::firing::fire_all;
-use crate::first_passes::FirstPasses;
+use crate::first_passes::LaterPasses;
 use crate::weaving::{events_of, intervals_are_woven, woven_of};
 use access_record::Turns;
 use bound_records::Recorder;
@@ -64,7 +64,6 @@ pub fn weave_recorded<R: Threads + Sync, G: Gate>(
     ensures recorded { OnOk result ((intervals : List Interval) → IsRecordingOf machine.now intervals recording.old → IsRecordingOf machine.now (intervals ++ recorded_interval machine.now comps.old recorder.now ∷ []) recording.new) }
     ensures on { is_on recording.new ≡ is_on recording.old }
 {
-    let first = FirstPasses::of(gate);
     let found = weave_by_cores(
         alloc,
         machine,
@@ -73,7 +72,7 @@ pub fn weave_recorded<R: Threads + Sync, G: Gate>(
         comps,
         counters,
         workers,
-        &first,
+        gate,
         places,
         recording,
         chain_buffers,
@@ -89,12 +88,24 @@ pub fn weave_recorded<R: Threads + Sync, G: Gate>(
             comps,
             counters,
             workers,
-            &first.later(),
+            &later_passes(gate, workers, recording, places, chain_buffers),
             places,
             domains_are_worth,
             recording,
         ),
     }
+}
+
+/// The gate for the weave in order that follows where the one core by core gave nothing.
+fn later_passes<'a, G: Gate>(
+    gate: &'a G,
+    workers: u16,
+    recording: &Recording,
+    places: &[u16],
+    chain_buffers: &ChainBuffers,
+) -> LaterPasses<'a, G> {
+    let begun = can_fire_by_cores(workers, recording);
+    LaterPasses::behind(gate, begun, places, chain_buffers)
 }
 
 /// The same core by core, without adding anything to the recording. None where they cannot be fired

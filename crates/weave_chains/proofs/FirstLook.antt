@@ -15,12 +15,11 @@ use Rattle.event_graph.specs.Fits.{GraphFits}
 use Rattle.event_graph.specs.OneListWeave.{after_firings, finish_in, start_of}
 use Rattle.event_graph.specs.SmallSteps.{AreSmallSteps}
 use Rattle.weave_chains.specs.declared.chain.Chain.{Chain}
-use Rattle.weave_chains.specs.declared.chain.Next.{Next}
 use Rattle.weave_chains.specs.Beginning.{AreFresh}
 use Rattle.weave_chains.specs.Chains.{AreReady, next_number, start_by}
 use Rattle.weave_chains.specs.GraphFacts.{ArePlaced}
 use Rattle.weave_chains.specs.Listed.{list_of, number_before, one_after_other}
-use Rattle.weave_chains.specs.NextEvents.{AreOfLists, IsAhead, IsNext, KnowsAccess}
+use Rattle.weave_chains.specs.NextEvents.{AreOfLists, IsAhead, KnowsAccess, StartsAt}
 use Rattle.weave_chains.specs.RoundLaws.{RoundLaws}
 use Rattle.weave_chains.specs.Rounds.{AreChained, AreInChains}
 use Rattle.weave_chains.specs.States.{ChainState, state_of, states}
@@ -98,7 +97,7 @@ module _ {C : Type 0} {serves : C → Kind → Bool} {floor : C → Kind → ℕ
         event = F.event pieces entries placed (states lists begun) in_list fresh core keys have c c_there on e e_in_all p p_there (laws.parents e)
 
         pub start_small : (first : List C) → GraphFits serves floor (all_events pieces entries) first → AreSmallSteps stepped greatest (all_events pieces entries) first
-            → (e.start + p.offset ≤ 2 ^ 62) × (start_by (state_of 0 chain) (e.start + p.offset) p ≤ 2 ^ 62)
+            → (e.start + p.offset + p.time ≤ 2 ^ 62) × (start_by (state_of 0 chain) (e.start + p.offset) p ≤ 2 ^ 62)
         start_small first fits small =
             let event_there : slice_get (all_events pieces entries) (next_number pieces entries c) ≡ Some event = F.event_there pieces entries placed (states lists begun) in_list fresh core keys have c c_there on e e_in_all p p_there (laws.parents e) in
             let s : start_of (finish_in []) event ≤ 2 ^ 62 =
@@ -118,24 +117,14 @@ module _ {C : Type 0} {serves : C → Kind → Bool} {floor : C → Kind → ℕ
 
     -- the chain that knows its first event, where it has one
     module _ (after : Chain) (after_is : after ≡ record chain { next = after.next }) (looked : IsAhead pieces list after) where
-      abbrev Starts : ℕ → Type 0
-      Starts start = (z : Next) × (after.next ≡ Some z) × (start ≡ start_by (state_of 0 chain) (z.entry.start + z.piece.offset) z.piece)
-
-      z_is : (z : Next) → after.next ≡ Some z → (slice_get list chain.access ≡ Some z.entry) × (slice_get (pieces z.entry) chain.place ≡ Some z.piece)
-      z_is z known =
-          let f : IsNext pieces list after z = looked.next z known in (
-            ap (slice_get list) (sym (ap (λ (y : Chain). y.access) after_is)) ∙ f.access.there,
-            ap (slice_get (pieces z.entry)) (sym (ap (λ (y : Chain). y.place) after_is)) ∙ f.piece,
-          )
-
       pub starts_soon : (first : List C) → GraphFits serves floor (all_events pieces entries) first → AreSmallSteps stepped greatest (all_events pieces entries) first
-          → (start : Option ℕ) → IfSome start Starts → IfSome start (λ s. s < 2 ^ 64 - 1)
+          → (start : Option ℕ) → IfSome start (StartsAt pieces list chain) → IfSome start (λ s. s < 2 ^ 64 - 1)
       starts_soon first fits small None h = h
-      starts_soon first fits small (Some start) h = let z = z_is h.0 h.1 in start_soon h.0.entry z.0 h.0.piece z.1 start h.2 first fits small
+      starts_soon first fits small (Some start) h = start_soon h.entry h.there h.piece h.made start h.start_is first fits small
 
-      pub keys_after : (start : Option ℕ) → IfNone start (chain.end ≤ chain.access) → IfSome start Starts → HaveKeys pieces entries (states lists begun) (core + 1) (with_next core start keys)
+      pub keys_after : (start : Option ℕ) → IfNone start (chain.end ≤ chain.access) → IfSome start (StartsAt pieces list chain) → HaveKeys pieces entries (states lists begun) (core + 1) (with_next core start keys)
       keys_after None end some = F.passed_over pieces entries placed (states lists begun) in_list fresh core keys have c c_there (omega (arith, end))
-      keys_after (Some start) end some = let z = z_is some.0 some.1 in key_more some.0.entry z.0 some.0.piece z.1 start some.2
+      keys_after (Some start) end some = key_more some.entry some.there some.piece some.made start some.start_is
 
       pub same_after : states lists (slice_set chains core after) ≡ states lists begun
       same_after =

@@ -18,3 +18,4 @@ mod Rounds
 mod Starts
 mod Tallied
 mod Whole
+mod OneCore

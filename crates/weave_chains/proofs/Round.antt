@@ -26,7 +26,7 @@ use Rattle.weave_chains.specs.declared.tally.Served.{Served}
 use Rattle.weave_chains.specs.Chains.{AreUnderWay, IsChain, IsReady, moved_on, next_number, start_by}
 use Rattle.weave_chains.specs.GraphFacts.{ArePlaced}
 use Rattle.weave_chains.specs.Listed.{list_of, number_before, one_after_other}
-use Rattle.weave_chains.specs.NextEvents.{AreAhead, IsAhead, IsAtAccess, IsNext, KnowsAccess}
+use Rattle.weave_chains.specs.NextEvents.{AreAhead, IsAhead, IsAtAccess, IsNext, KnowsAccess, StartsAt}
 use Rattle.weave_chains.specs.RoundLaws.{RoundLaws}
 use Rattle.weave_chains.specs.Rounds.{AreChained, AreInChains, HasCome, IsWeaving}
 use Rattle.weave_chains.specs.States.{ChainState, state_of, states}
@@ -206,6 +206,21 @@ module _ {C : Type 0} {serves : C → Kind → Bool} {floor : C → Kind → ℕ
       c_next : slice_get events (next_number pieces entries c) ≡ Some event
       c_next = subst (λ z. slice_get events (next_number pieces entries z) ≡ Some event) c_is (is_next more)
 
+      pub starts_small : k.start ≤ 2 ^ 62
+      starts_small =
+          subst (λ s. s ≤ 2 ^ 62) (sym (is_k.1 ∙ step.2.next.start))
+          (by_all (λ e. start_of (finish_in fired) e ≤ 2 ^ 62) events (r.laws.starts events first n placed.numbered r.weaving.fits r.weaving.small) event
+          (contained events (next_number pieces entries c) event c_next))
+
+      pub starts_now : (e : Entry) → slice_get list chain.access ≡ Some e → (q : Piece) → slice_get (pieces e) chain.place ≡ Some q
+          → k.start ≡ start_by (state_of 0 chain) (e.start + q.offset) q
+      starts_now e at q q_at =
+          let e_in_all : slice_get entries c.access ≡ Some e = in_all lists k.number chain.access e at in
+          let there : slice_get events (next_number pieces entries c) ≡ Some (event_at (events_before pieces entries c.access) e (pieces e) c.place q) = placed.there c.access e c.place q e_in_all q_at in
+          let next_is : slice_get events (next_number pieces entries c) ≡ Some event = c_next in
+          let same : event ≡ event_at (events_before pieces entries c.access) e (pieces e) c.place q = cc in
+          is_k.1 ∙ (step.2.next.start ∙ (ap (start_of (finish_in fired)) same ∙ sym (start_is pieces entries placed fired event.core c is on e e_in_all (r.laws.parents e) q q_at)))
+
       knows : IsAhead pieces list chain
       knows = r.ahead k.number chain chain_there
 
@@ -217,16 +232,16 @@ module _ {C : Type 0} {serves : C → Kind → Bool} {floor : C → Kind → ℕ
         is_known = knows.next known known_is
 
         abbrev entry : Entry
-        entry = known.entry
+        entry = is_known.entry
 
         abbrev p : Piece
-        p = known.piece
+        p = is_known.piece
 
         e_there : slice_get entries c.access ≡ Some entry
         e_there = in_all lists k.number chain.access entry is_known.access.there
 
-        pub core_is : entry.core ≡ k.number
-        core_is = r.chained.own k.number chain.access entry is_known.access.there
+        pub core_is : known.core ≡ k.number
+        core_is = is_known.core ∙ r.chained.own k.number chain.access entry is_known.access.there
 
         place_within : c.place < length (pieces entry)
         place_within = is.place entry on e_there
@@ -234,69 +249,66 @@ module _ {C : Type 0} {serves : C → Kind → Bool} {floor : C → Kind → ℕ
         pub place_small : chain.place < 64
         place_small = omega (arith, place_within, r.chained.few c.access entry e_there)
 
-        pub soon : entry.start + p.offset + p.time ≤ 2 ^ 62
-        soon = omega (arith, r.chained.early c.access entry e_there, r.laws.short entry chain.place p is_known.piece)
-
         event_is : event ≡ event_at (events_before pieces entries c.access) entry (pieces entry) c.place p
         event_is =
-            let a : slice_get events (next_number pieces entries c) ≡ Some (event_at (events_before pieces entries c.access) entry (pieces entry) c.place p) = placed.there c.access entry c.place p e_there is_known.piece in
+            let a : slice_get events (next_number pieces entries c) ≡ Some (event_at (events_before pieces entries c.access) entry (pieces entry) c.place p) = placed.there c.access entry c.place p e_there is_known.made in
             let b : slice_get events (next_number pieces entries c) ≡ Some event = c_next in
             cc
 
-        component_is : event.component ≡ p.component
-        component_is = ap (λ (e : Event). e.component) event_is
+        component_is : event.component ≡ known.component
+        component_is = ap (λ (e : Event). e.component) event_is ∙ sym is_known.component
 
-        kind_is : event.kind ≡ p.kind
-        kind_is = ap (λ (e : Event). e.kind) event_is
+        kind_is : event.kind ≡ known.kind
+        kind_is = ap (λ (e : Event). e.kind) event_is ∙ sym is_known.kind
 
-        comp_there : slice_get comps p.component ≡ Some step.1
-        comp_there = ap (λ cs. slice_get cs p.component) come.comps_are ∙ (ap (slice_get (after_firings stepped events first n).comps) (sym component_is) ∙ step.2.there)
+        comp_there : slice_get comps known.component ≡ Some step.1
+        comp_there = ap (λ cs. slice_get cs known.component) come.comps_are ∙ (ap (slice_get (after_firings stepped events first n).comps) (sym component_is) ∙ step.2.there)
 
-        pub component_within : p.component < length comps
-        component_within = slice_get_within comps p.component step.1 comp_there
+        pub component_within : known.component < length comps
+        component_within = slice_get_within comps known.component step.1 comp_there
 
-        module _ (comp : C) (comp_is : slice_get comps p.component ≡ Some comp) where
+        module _ (comp : C) (comp_is : slice_get comps known.component ≡ Some comp) where
           same_comp : step.1 ≡ comp
-          same_comp = let a : slice_get comps p.component ≡ Some step.1 = comp_there in cc
+          same_comp = let a : slice_get comps known.component ≡ Some step.1 = comp_there in cc
 
-          pub serves_it : IsTrue (serves comp p.kind)
-          serves_it = subst (λ z. IsTrue (serves z p.kind)) same_comp (subst (λ kind. IsTrue (serves step.1 kind)) kind_is step.2.served)
+          pub serves_it : IsTrue (serves comp known.kind)
+          serves_it = subst (λ z. IsTrue (serves z known.kind)) same_comp (subst (λ kind. IsTrue (serves step.1 kind)) kind_is step.2.served)
 
-          pub small_here : greatest comp p.kind k.start ≤ 2 ^ 62
-          small_here = subst (λ z. greatest z p.kind k.start ≤ 2 ^ 62) same_comp (subst (λ kind. greatest step.1 kind k.start ≤ 2 ^ 62) kind_is (subst (λ s. greatest step.1 event.kind s ≤ 2 ^ 62) (sym is_k.1) (small_step more)))
+          pub small_here : greatest comp known.kind k.start ≤ 2 ^ 62
+          small_here = subst (λ z. greatest z known.kind k.start ≤ 2 ^ 62) same_comp (subst (λ kind. greatest step.1 kind k.start ≤ 2 ^ 62) kind_is (subst (λ s. greatest step.1 event.kind s ≤ 2 ^ 62) (sym is_k.1) (small_step more)))
 
           abbrev finish : ℕ
-          finish = (stepped comp p.kind k.start).1
+          finish = (stepped comp known.kind k.start).1
 
           abbrev left : C
-          left = (stepped comp p.kind k.start).0
+          left = (stepped comp known.kind k.start).0
 
-          stepped_is : stepped comp p.kind k.start ≡ stepped step.1 event.kind step.0.start
-          stepped_is = ap (λ z. stepped z p.kind k.start) (sym same_comp) ∙ (ap (λ kind. stepped step.1 kind k.start) (sym kind_is) ∙ ap (stepped step.1 event.kind) is_k.1)
+          stepped_is : stepped comp known.kind k.start ≡ stepped step.1 event.kind step.0.start
+          stepped_is = ap (λ z. stepped z known.kind k.start) (sym same_comp) ∙ (ap (λ kind. stepped step.1 kind k.start) (sym kind_is) ∙ ap (stepped step.1 event.kind) is_k.1)
 
           finish_is : finish ≡ step.0.finish
           finish_is = ap (λ z. z.1) stepped_is ∙ sym step.2.finish
 
           -- what is answered of the event
-          served_is : served_by entry.core p.component k.start (finish - k.start - p.time) ≡ served_of step.0
+          served_is : served_by known.core known.component k.start (finish - k.start - known.time) ≡ served_of step.0
           served_is =
-              let core : entry.core ≡ event.core = sym (ap (λ (e : Event). e.core) event_is) in
+              let core : known.core ≡ event.core = is_known.core ∙ sym (ap (λ (e : Event). e.core) event_is) in
               let least_start : event.min_start ≡ entry.start + p.offset = ap (λ (e : Event). e.min_start) event_is in
               let least_finish : event.min_finish ≡ entry.start + p.offset + p.time = ap (λ (e : Event). e.min_finish) event_is in
-              let time_is : p.time ≡ event.min_finish - event.min_start = omega (arith, least_start, least_finish) in
-              let waits : finish - k.start - p.time ≡ wait_of event (fired_of step.0) =
-              ap (λ z. z - k.start - p.time) finish_is ∙ (ap (λ z. step.0.finish - z - p.time) is_k.1 ∙ ap (λ z. step.0.finish - step.0.start - z) time_is)
+              let time_is : known.time ≡ event.min_finish - event.min_start = omega (arith, least_start, least_finish, is_known.time) in
+              let waits : finish - k.start - known.time ≡ wait_of event (fired_of step.0) =
+              ap (λ z. z - k.start - known.time) finish_is ∙ (ap (λ z. step.0.finish - z - known.time) is_k.1 ∙ ap (λ z. step.0.finish - step.0.start - z) time_is)
               in
-              same_served entry.core event.core p.component event.component k.start step.0.start (finish - k.start - p.time) (wait_of event (fired_of step.0)) core (sym component_is) is_k.1 waits
+              same_served known.core event.core known.component event.component k.start step.0.start (finish - k.start - known.time) (wait_of event (fired_of step.0)) core (sym component_is) is_k.1 waits
 
-          comps_next : slice_set comps p.component left ≡ (after_firings stepped events first (suc n)).comps
+          comps_next : slice_set comps known.component left ≡ (after_firings stepped events first (suc n)).comps
           comps_next =
-              ap (λ z. slice_set comps p.component z) (ap (λ z. z.0) stepped_is)
+              ap (λ z. slice_set comps known.component z) (ap (λ z. z.0) stepped_is)
               ∙ (ap (λ i. slice_set comps i (stepped step.1 event.kind step.0.start).0) (sym component_is)
               ∙ (ap (λ cs. slice_set cs event.component (stepped step.1 event.kind step.0.start).0) come.comps_are ∙ sym step.2.comps))
 
           abbrev done : Ended
-          done = record { finish = finish; at_zero_load = entry.start + p.offset + p.time }
+          done = record { finish = finish; at_zero_load = known.finish }
 
           abbrev real_done : Ended
           real_done = record { finish = step.0.finish; at_zero_load = event.min_finish }
@@ -304,7 +316,7 @@ module _ {C : Type 0} {serves : C → Kind → Bool} {floor : C → Kind → ℕ
           done_is : real_done ≡ done
           done_is =
               let of : ℕ → ℕ → Ended = λ f z. record { finish = f; at_zero_load = z } in
-              ap (λ f. of f event.min_finish) (sym finish_is) ∙ ap (of finish) (ap (λ (e : Event). e.min_finish) event_is)
+              ap (λ f. of f event.min_finish) (sym finish_is) ∙ ap (of finish) (ap (λ (e : Event). e.min_finish) event_is ∙ sym is_known.finish)
 
           -- the chain that has moved on
           module _ (moved : Chain) (moved_is : (base : ℕ) → state_of base moved ≡ moved_on known.count done (state_of base chain)) (kept : moved.next ≡ chain.next) where
@@ -314,7 +326,7 @@ module _ {C : Type 0} {serves : C → Kind → Bool} {floor : C → Kind → ℕ
             is_moved : IsChain pieces entries (fired ++ step.0 ∷ []) event.core m
             is_moved =
                 subst (λ z. IsChain pieces entries (fired ++ step.0 ∷ []) event.core z)
-                (ap (λ d. moved_on (length (pieces entry)) d c) done_is ∙ (ap (λ i. moved_on i done c) (sym is_known.access.count) ∙ sym (moved_is before)))
+                (ap (λ d. moved_on (length (pieces entry)) d c) done_is ∙ (ap (λ i. moved_on i done c) (sym is_known.access.count_is) ∙ sym (moved_is before)))
                 (own_chain pieces entries placed fired step.0 (unfired more) (x_at more) c is on c_next entry e_there r.chained.some (omega (arith, r.chained.few c.access entry e_there, is.sized)))
 
             after_is : (after_firings stepped events first (suc n)).fired ≡ fired ++ step.0 ∷ []
@@ -333,13 +345,13 @@ module _ {C : Type 0} {serves : C → Kind → Bool} {floor : C → Kind → ℕ
             still_known deep =
                 let there : 0 < (moved_on known.count done (state_of 0 chain)).place = subst (λ (s : ChainState). 0 < s.place) (moved_is 0) deep in
                 let access : moved.access ≡ chain.access = omega (arith, ap (λ (s : ChainState). s.access) (moved_is 0), same_access known.count done (state_of 0 chain) there) in
-                let at : IsAtAccess pieces list moved known = record {
+                let at : IsAtAccess pieces list moved entry known.count = record {
                   goes_on = omega (arith, access, end_stays, chain_goes_on);
                   there = subst (λ i. slice_get list i ≡ Some entry) (sym access) is_known.access.there;
-                  count = is_known.access.count;
+                  count_is = is_known.access.count_is;
                 }
                 in
-                (known, kept ∙ known_is, at)
+                (known, entry, kept ∙ known_is, at)
 
             module _ (other : Entry) (o_there : slice_get list moved.access ≡ Some other) (q : Piece) (q_there : slice_get (pieces other) moved.place ≡ Some q) where
               moved_on' : m.access < m.end
@@ -357,7 +369,7 @@ module _ {C : Type 0} {serves : C → Kind → Bool} {floor : C → Kind → ℕ
               starts_then : start_by m (other.start + q.offset) q ≡ start_of (finish_in (fired ++ step.0 ∷ [])) later
               starts_then = start_is pieces entries placed (fired ++ step.0 ∷ []) event.core m is_moved moved_on' other o_in_all (r.laws.parents other) q q_there
 
-              pub start_small : (other.start + q.offset ≤ 2 ^ 62) × (start_by (state_of 0 moved) (other.start + q.offset) q ≤ 2 ^ 62)
+              pub start_small : (other.start + q.offset + q.time ≤ 2 ^ 62) × (start_by (state_of 0 moved) (other.start + q.offset) q ≤ 2 ^ 62)
               start_small =
                   let s : start_of (finish_in (fired ++ step.0 ∷ [])) later ≤ 2 ^ 62 =
                   subst (λ xs. start_of (finish_in xs) later ≤ 2 ^ 62) after_is
@@ -370,55 +382,51 @@ module _ {C : Type 0} {serves : C → Kind → Bool} {floor : C → Kind → ℕ
                 start_soon : start < 2 ^ 64 - 1
                 start_soon = omega (arith, start_now, start_small.1)
 
-                comes_on : HasCome stepped pieces entries first (suc n) (slice_set all k.number m) (put (record { start = start; number = k.number }) (drop 1 keys)) (slice_set comps p.component left)
+                comes_on : HasCome stepped pieces entries first (suc n) (slice_set all k.number m) (put (record { start = start; number = k.number }) (drop 1 keys)) (slice_set comps known.component left)
                 comes_on = record {
                   way = subst (λ xs. AreUnderWay pieces entries xs (slice_set all k.number m) (put (record { start = start; number = k.number }) (drop 1 keys))) (sym after_is)
                       (rounds.goes_on pieces entries placed fired step.0 (unfired more) (x_at more) all keys r.ascending come.way k at is_k.0 c c_there c_next m is_moved moved_on' later later_there start (start_now ∙ starts_then));
                   comps_are = comps_next;
                 }
 
-            comes_over : m.end ≤ m.access → HasCome stepped pieces entries first (suc n) (slice_set all k.number m) (drop 1 keys) (slice_set comps p.component left)
+            comes_over : m.end ≤ m.access → HasCome stepped pieces entries first (suc n) (slice_set all k.number m) (drop 1 keys) (slice_set comps known.component left)
             comes_over end = record {
               way = subst (λ xs. AreUnderWay pieces entries xs (slice_set all k.number m) (drop 1 keys)) (sym after_is)
                   (rounds.over pieces entries placed fired step.0 (unfired more) (x_at more) all keys r.ascending come.way k at is_k.0 c c_there c_next m is_moved end);
               comps_are = comps_next;
             }
 
+            comes : (start : Option ℕ) → IfNone start (moved.end ≤ moved.access) → IfSome start (StartsAt pieces list moved)
+                → HasCome stepped pieces entries first (suc n) (slice_set all k.number m) (with_next k.number start (drop 1 keys)) (slice_set comps known.component left)
+            comes None end some = comes_over (omega (arith, end))
+            comes (Some start) end some = comes_on some.entry some.there some.piece some.made start some.start_is
+
+            pub fires_on : (start : Option ℕ) → IfNone start (moved.end ≤ moved.access) → IfSome start (StartsAt pieces list moved)
+                → HasFiredNext stepped pieces entries first n (slice_set all k.number m) (with_next k.number start (drop 1 keys)) (slice_set comps known.component left)
+                (served_by known.core known.component k.start (finish - k.start - known.time))
+            fires_on start end some = record {
+              more = more;
+              come = subst (λ i. HasCome stepped pieces entries first i (slice_set all k.number m) (with_next k.number start (drop 1 keys)) (slice_set comps known.component left)) (sym (add-one n)) (comes start end some);
+              event = step.0;
+              fired = subst (λ i. (after_firings stepped events first i).fired ≡ fired ++ step.0 ∷ []) (sym (add-one n)) after_is;
+              served_is = served_is;
+            }
+
             -- the chain that knows its next event, where it has one
             module _ (after : Chain) (same : after ≡ record moved { next = after.next }) (looked : IsAhead pieces list after) where
-              abbrev Starts : ℕ → Type 0
-              Starts start = (z : Next) × (after.next ≡ Some z) × (start ≡ start_by (state_of 0 moved) (z.entry.start + z.piece.offset) z.piece)
-
-              z_is : (z : Next) → after.next ≡ Some z → (slice_get list moved.access ≡ Some z.entry) × (slice_get (pieces z.entry) moved.place ≡ Some z.piece)
-              z_is z is_z =
-                  let f : IsNext pieces list after z = looked.next z is_z in (
-                    ap (slice_get list) (sym (ap (λ (y : Chain). y.access) same)) ∙ f.access.there,
-                    ap (slice_get (pieces z.entry)) (sym (ap (λ (y : Chain). y.place) same)) ∙ f.piece,
-                  )
-
               states_now : states lists (slice_set chains k.number after) ≡ slice_set all k.number m
               states_now = states_set lists chains k.number after ∙ ap (slice_set all k.number) (ap (state_of before) same)
 
-              pub starts_soon : (start : Option ℕ) → IfSome start Starts → IfSome start (λ s. s < 2 ^ 64 - 1)
+              pub starts_soon : (start : Option ℕ) → IfSome start (StartsAt pieces list moved) → IfSome start (λ s. s < 2 ^ 64 - 1)
               starts_soon None h = h
-              starts_soon (Some start) h = let z = z_is h.0 h.1 in start_soon h.0.entry z.0 h.0.piece z.1 start h.2
+              starts_soon (Some start) h = start_soon h.entry h.there h.piece h.made start h.start_is
 
-              comes : (start : Option ℕ) → IfNone start (moved.end ≤ moved.access) → IfSome start Starts
-                  → HasCome stepped pieces entries first (suc n) (slice_set all k.number m) (with_next k.number start (drop 1 keys)) (slice_set comps p.component left)
-              comes None end some = comes_over (omega (arith, end))
-              comes (Some start) end some = let z = z_is some.0 some.1 in comes_on some.0.entry z.0 some.0.piece z.1 start some.2
-
-              pub fired_next : (start : Option ℕ) → IfNone start (moved.end ≤ moved.access) → IfSome start Starts
-                  → HasFiredNext stepped pieces entries first n (states lists (slice_set chains k.number after)) (with_next k.number start (drop 1 keys)) (slice_set comps p.component left)
-                  (served_by entry.core p.component k.start (finish - k.start - p.time))
-              fired_next start end some = record {
-                more = more;
-                come = subst (λ i. HasCome stepped pieces entries first i (states lists (slice_set chains k.number after)) (with_next k.number start (drop 1 keys)) (slice_set comps p.component left)) (sym (add-one n))
-                    (subst (λ cs. HasCome stepped pieces entries first (suc n) cs (with_next k.number start (drop 1 keys)) (slice_set comps p.component left)) (sym states_now) (comes start end some));
-                event = step.0;
-                fired = subst (λ i. (after_firings stepped events first i).fired ≡ fired ++ step.0 ∷ []) (sym (add-one n)) after_is;
-                served_is = served_is;
-              }
+              pub fired_next : (start : Option ℕ) → IfNone start (moved.end ≤ moved.access) → IfSome start (StartsAt pieces list moved)
+                  → HasFiredNext stepped pieces entries first n (states lists (slice_set chains k.number after)) (with_next k.number start (drop 1 keys)) (slice_set comps known.component left)
+                  (served_by known.core known.component k.start (finish - k.start - known.time))
+              fired_next start end some =
+                  subst (λ cs. HasFiredNext stepped pieces entries first n cs (with_next k.number start (drop 1 keys)) (slice_set comps known.component left) (served_by known.core known.component k.start (finish - k.start - known.time)))
+                  (sym states_now) (fires_on start end some)
 
     -- each chain still knows its next event
     pub ahead_after : (after : Chain) → IsAhead pieces list after → AreAhead pieces lists (slice_set chains k.number after)

@@ -44,7 +44,7 @@ same_core last s none same =
       | inr f ↦ absurd (false≢true (sym none ∙ tie_from (last.start == s.start) (last.core == s.core) (eq-eqb last.start s.start same) f))
     ]
 
-meets : (last s : Served) → ties (Some last) s ≡ true → (last.start ≡ s.start) × (last.core ≡ s.core → ⊥)
+pub meets : (last s : Served) → ties (Some last) s ≡ true → (last.start ≡ s.start) × (last.core ≡ s.core → ⊥)
 meets last s tie =
     let parts : ((last.start == s.start) ≡ true) × ((last.core == s.core) ≡ false) = tie_parts (last.start == s.start) (last.core == s.core) tie in
     (eqb-true last.start s.start parts.0, λ same. false≢true (sym parts.1 ∙ eq-eqb last.core s.core same))
@@ -75,7 +75,7 @@ module _ (fired : List FiredEvent) (x : FiredEvent) where
   abbrev own : ℕ
   own = x.event.component
 
-  cases : (y : FiredEvent) → Contains after y → Contains fired y ⊎ (x ≡ y)
+  pub cases : (y : FiredEvent) → Contains after y → Contains fired y ⊎ (x ≡ y)
   cases y m = elim (in_push_cases y fired x (in_contains y after m)) [ inl old ↦ inl (contains_in y fired old) | inr same ↦ inr same ]
 
   pub still : (y : FiredEvent) → Contains fired y → Contains after y

@@ -83,6 +83,10 @@ after_ended start (Some d) = d.finish + (start - d.at_zero_load)
 abbrev pub waited_for : ChainState → (place : Option ℕ) → Option Ended
 waited_for c place = option_and_then (λ i. slice_get c.ended i) place
 
+-- a chain of which no more is known than what its next event waits for
+abbrev pub behind : (place : ℕ) → List Ended → (last : Option Ended) → ChainState
+behind place ended last = record { access = 0; end = 0; place = place; ended = ended; last = last }
+
 abbrev pub start_by : ChainState → (start : ℕ) → Piece → ℕ
 start_by c start p = max start (max (after_ended start (if c.place == 0 then c.last else waited_for c p.first)) (after_ended start (waited_for c p.second)))
 

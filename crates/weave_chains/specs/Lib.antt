@@ -9,3 +9,4 @@ pub mod Ties
 pub mod Tallies
 pub mod Woven
 pub mod RoundLaws
+pub mod Alone

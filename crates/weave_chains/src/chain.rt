@@ -1,10 +1,11 @@
 //! How far the events of a core's accesses have fired.
-ghost use Rattle.std.specs.Prelude.{◌≡◌, ◌-◌, ◌<◌, ◌≤◌, ◌^◌, ℕ, nat_lt};
-ghost use Rattle.weave_chains.specs.Chains.{after_ended, delay_by, moved_on, start_by, waited_for};
+ghost use Rattle.std.specs.Option.{option_and_then};
+ghost use Rattle.std.specs.Prelude.{slice_get, ◌≡◌, ◌-◌, ◌<◌, ◌≤◌, ◌^◌, ℕ, nat_lt};
+ghost use Rattle.weave_chains.specs.Chains.{after_ended, behind, delay_by, moved_on, start_by};
 ghost use Rattle.weave_chains.specs.States.{IsFreshChain, state_of};
 
-use event_graph::Piece;
-use zs_num::{Cycle, Entry};
+use event_graph::{Kind, Piece};
+use zs_num::Cycle;
 
 /// How many events an access has at most.
 pub(crate) const MOST: usize = 64;
@@ -16,13 +17,19 @@ pub(crate) struct Ended {
     pub(crate) at_zero_load: Cycle,
 }
 
-/// The event of a chain that fires next.
+/// What is kept of the event of a chain that fires next: no more than its firing asks for, since it
+/// is written and read for each event.
 #[derive(Clone, Copy)]
 pub(crate) struct Next {
-    /// The access that it is of, and how many events that has.
-    pub(crate) entry: Entry,
+    /// The core whose access it is of, and how many events that access has.
+    pub(crate) core: u16,
     pub(crate) count: u16,
-    pub(crate) piece: Piece,
+    /// The component that serves it, and what it asks there.
+    pub(crate) component: u16,
+    pub(crate) kind: Kind,
+    /// How many cycles it takes at zero load, and when it finishes then.
+    pub(crate) time: u64,
+    pub(crate) finish: Cycle,
 }
 
 /// The chain of a core's events, while they fire.
@@ -70,6 +77,7 @@ impl Chain {
     }
 
     /// Whether it has an event that can fire.
+    #[inline(always)]
     pub(crate) fn goes_on(&self) -> bool
         ensures { result ≡ nat_lt self.now.access self.now.end }
     {
@@ -77,6 +85,7 @@ impl Chain {
     }
 
     /// Its next event has ended so, of an access with so many.
+    #[inline(always)]
     pub(crate) fn move_on(&mut self, count: u16, done: Ended)
         requires place { self.old.place < 64 }
         requires access { self.old.access < self.old.end }
@@ -94,17 +103,12 @@ impl Chain {
     }
 
     /// When its next event starts, which is this piece of an access and starts then at zero load.
+    #[inline(always)]
     pub(crate) fn start(&self, at_zero_load: Cycle, piece: &Piece) -> Cycle
         requires { start_by (state_of 0 self.now) at_zero_load piece.now ≤ 2 ^ 62 }
         ensures { result ≡ start_by (state_of 0 self.now) at_zero_load piece.now }
     {
-        let first = if self.place == 0 {
-            self.last
-        } else {
-            self.waited_for(piece.first)
-        };
-        let second = self.waited_for(piece.second);
-        at_zero_load.max(after(at_zero_load, first).max(after(at_zero_load, second)))
+        start_of(self.place, &self.ended, self.last, at_zero_load, piece)
     }
 
     /// How many cycles the core has waited, whose chain is over.
@@ -116,19 +120,43 @@ impl Chain {
             None => 0,
         }
     }
+}
 
-    /// The event at a place of the access, where it has fired.
-    fn waited_for(&self, place: Option<u16>) -> Option<Ended>
-        ensures { result ≡ waited_for (state_of 0 self.now) place }
-    {
-        match place {
-            Some(place) => self.ended.get(usize::from(place)).copied(),
-            None => None,
-        }
+/// When the event at a place of an access starts, which is this piece and starts then at zero load;
+/// these events of the access have fired, and that was the last one before it.
+#[inline(always)]
+pub(crate) fn start_of(
+    place: u16,
+    ended: &[Ended; MOST],
+    last: Option<Ended>,
+    at_zero_load: Cycle,
+    piece: &Piece,
+) -> Cycle
+    requires { start_by (behind place ended.now last) at_zero_load piece.now ≤ 2 ^ 62 }
+    ensures { result ≡ start_by (behind place ended.now last) at_zero_load piece.now }
+{
+    let first = if place == 0 {
+        last
+    } else {
+        waited_for(ended, piece.first)
+    };
+    let second = waited_for(ended, piece.second);
+    at_zero_load.max(after(at_zero_load, first).max(after(at_zero_load, second)))
+}
+
+/// The event at a place of the access, where it has fired.
+#[inline(always)]
+fn waited_for(ended: &[Ended; MOST], place: Option<u16>) -> Option<Ended>
+    ensures { result ≡ option_and_then (λ i. slice_get ended.now i) place }
+{
+    match place {
+        Some(place) => ended.get(usize::from(place)).copied(),
+        None => None,
     }
 }
 
 /// The earliest start behind an event, of one that starts then at zero load.
+#[inline(always)]
 fn after(start: Cycle, ended: Option<Ended>) -> Cycle
     requires { after_ended start ended ≤ 2 ^ 62 }
     ensures { result ≡ after_ended start ended }

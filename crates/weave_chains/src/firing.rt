@@ -23,46 +23,45 @@ use zs_num::Cycle;
 
 /// An event as its component has served it, and when it has ended.
 #[derive(Clone, Copy)]
-struct Firing {
-    served: Served,
-    ended: Ended,
+pub(crate) struct Firing {
+    pub(crate) served: Served,
+    pub(crate) ended: Ended,
 }
 
 /// The next event of a chain starts at this cycle, and is served.
 #[inline(always)]
-fn serve<C: Component, G: Gate>(
+pub(crate) fn serve<C: Component, G: Gate>(
     comps: &mut [C],
     next: &Next,
     start: Cycle,
     before: &Passing<G>,
 ) -> Firing
-    requires component { next.now.piece.component < length comps.old }
-    requires serves { (comp : C) → slice_get comps.old next.now.piece.component ≡ Some comp → IsTrue (C.serves comp next.now.piece.kind) }
-    requires small { (comp : C) → slice_get comps.old next.now.piece.component ≡ Some comp → C.greatest comp next.now.piece.kind start ≤ 2 ^ 62 }
-    requires early { next.now.entry.start + next.now.piece.offset + next.now.piece.time ≤ 2 ^ 62 }
-    ensures served { (comp : C) → slice_get comps.old next.now.piece.component ≡ Some comp → result.served ≡ record { core = next.now.entry.core; component = next.now.piece.component; start = start; waited = (C.stepped comp next.now.piece.kind start).1 - start - next.now.piece.time } }
-    ensures ended { (comp : C) → slice_get comps.old next.now.piece.component ≡ Some comp → result.ended ≡ record { finish = (C.stepped comp next.now.piece.kind start).1; at_zero_load = next.now.entry.start + next.now.piece.offset + next.now.piece.time } }
-    ensures comps { (comp : C) → slice_get comps.old next.now.piece.component ≡ Some comp → comps.new ≡ slice_set comps.old next.now.piece.component (C.stepped comp next.now.piece.kind start).0 }
+    requires component { next.now.component < length comps.old }
+    requires serves { (comp : C) → slice_get comps.old next.now.component ≡ Some comp → IsTrue (C.serves comp next.now.kind) }
+    requires small { (comp : C) → slice_get comps.old next.now.component ≡ Some comp → C.greatest comp next.now.kind start ≤ 2 ^ 62 }
+    ensures served { (comp : C) → slice_get comps.old next.now.component ≡ Some comp → result.served ≡ record { core = next.now.core; component = next.now.component; start = start; waited = (C.stepped comp next.now.kind start).1 - start - next.now.time } }
+    ensures ended { (comp : C) → slice_get comps.old next.now.component ≡ Some comp → result.ended ≡ record { finish = (C.stepped comp next.now.kind start).1; at_zero_load = next.now.finish } }
+    ensures comps { (comp : C) → slice_get comps.old next.now.component ≡ Some comp → comps.new ≡ slice_set comps.old next.now.component (C.stepped comp next.now.kind start).0 }
 {
-    let piece = &next.piece;
-    before.event_of(piece.component);
-    let finish = comps[usize::from(piece.component)].step(piece.kind, start);
+    before.event_of(next.component);
+    let finish = comps[usize::from(next.component)].step(next.kind, start);
     let took = finish.saturating_sub(start);
     Firing {
         served: Served {
-            core: next.entry.core,
-            component: piece.component,
+            core: next.core,
+            component: next.component,
             start,
-            waited: took.saturating_sub(piece.time),
+            waited: took.saturating_sub(next.time),
         },
         ended: Ended {
             finish,
-            at_zero_load: next.entry.start + piece.offset + piece.time,
+            at_zero_load: next.finish,
         },
     }
 }
 
 /// The next event fires, which is answered. None where all have fired.
+#[inline(always)]
 fn fire_next<X: Expand, C: Component, A: Accesses, G: Gate>(
     expand: &X,
     accesses: &A,

@@ -4,6 +4,7 @@
 
 mod accesses;
 mod ahead;
+mod alone;
 mod beginning;
 mod buffers;
 mod chain;

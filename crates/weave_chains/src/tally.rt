@@ -35,6 +35,7 @@ pub(crate) const NO_TALLY: Tally = Tally {
 impl Tally {
     /// The component has served one event more. Answers whether it ties with the last one: it is of
     /// another core, and starts in the same cycle.
+    #[inline(always)]
     pub(crate) fn take(&mut self, served: Served) -> bool
         requires events { self.old.count.events + 1 < 2 ^ 64 }
         requires waited { self.old.count.waited + served.waited < 2 ^ 128 }

@@ -1,26 +1,29 @@
 //! The weave of an interval whose accesses are listed core by core.
 ghost use Rattle.std.specs.Prelude.{◌≡◌, ◌-◌, ◌<◌, ◌^◌, List, [], IfNone, IfOk, IfSome, OnErr, length, map};
 ghost use Rattle.zs_num.specs.declared.entry.Entry.{Entry};
+ghost use Rattle.zs_num.specs.declared.time.Key.{Key};
 ghost use Rattle.event_graph.specs.EventGraph.{all_events};
 ghost use Rattle.event_graph.specs.Fits.{GraphFits};
-ghost use Rattle.event_graph.specs.OneListWeave.{woven};
+ghost use Rattle.event_graph.specs.OneListWeave.{weave, woven};
 ghost use Rattle.event_graph.specs.SmallSteps.{AreSmallSteps};
 ghost use Rattle.weave_chains.specs.Beginning.{AreFresh};
 ghost use Rattle.weave_chains.specs.Chains.{delay_by};
 ghost use Rattle.weave_chains.specs.Listed.{one_after_other};
-ghost use Rattle.weave_chains.specs.NextEvents.{AreOfLists};
-ghost use Rattle.weave_chains.specs.Rounds.{AreChained};
+ghost use Rattle.weave_chains.specs.NextEvents.{AreAhead, AreOfLists};
+ghost use Rattle.weave_chains.specs.Rounds.{AreChained, IsWeaving};
 ghost use Rattle.weave_chains.specs.States.{state_of, states};
-ghost use Rattle.weave_chains.specs.Tallies.{AreSmall, AreTallied};
+ghost use Rattle.weave_chains.specs.Tallies.{AreSmall, AreTallied, HaveFired};
 ghost use Rattle.weave_chains.specs.Ties.{HaveNoTie, HaveTie};
 ghost use Rattle.weave_chains.specs.Woven.{AreOrdered, IsWoven};
 
 use crate::accesses::Accesses;
+use crate::alone::fire_alone;
 use crate::beginning::{begin_chains, first_keys};
 use crate::buffers::ChainBuffers;
 use crate::chain::Chain;
 use crate::firing::fire_all;
 use crate::kept::{Kept, copy_of};
+use crate::laws::rounds_rest_on_these;
 use crate::passing::Passing;
 use crate::tally::{NO_TALLY, Tally};
 use component::{Component, Comps};
@@ -108,13 +111,14 @@ fn weave_on<X: Expand, C: Component, A: Accesses, G: Gate>(
 {
     buffers.make_room(alloc, accesses.cores())?;
     begin_chains(accesses, &mut buffers.chains);
-    let mut tallies = vec![in alloc; NO_TALLY; comps.as_slice().len()]?;
+    let tallies = vec![in alloc; NO_TALLY; comps.as_slice().len()]?;
+    buffers.tallies = tallies;
     weave_over(
         alloc,
         expand,
         accesses,
         &mut buffers.chains,
-        &mut tallies,
+        &mut buffers.tallies,
         comps.as_mut_slice(),
         before,
     )
@@ -153,7 +157,8 @@ fn weave_over<X: Expand, C: Component, A: Accesses, G: Gate>(
     laws::cores_wait_for_the_same_event();
     let mut ready = CoreQueue::with_room(alloc, accesses.cores())?;
     first_keys::<X, A, C>(expand, accesses, chains, &mut ready);
-    let Some(events) = fire_all(expand, accesses, chains, &mut ready, comps, tallies, before) else {
+    let Some(events) = fire_chains(expand, accesses, chains, &mut ready, comps, tallies, before)
+    else {
         return Ok(None);
     };
     let delays = delays_of(alloc, chains)?;
@@ -163,6 +168,40 @@ fn weave_over<X: Expand, C: Component, A: Accesses, G: Gate>(
         counts,
         events,
     }))
+}
+
+/// All events fire, or those up to the first that ties with one of another core. Answers how many
+/// they are, and none where there is such a tie. One core alone needs no queue, and has no ties.
+fn fire_chains<X: Expand, C: Component, A: Accesses, G: Gate>(
+    expand: &X,
+    accesses: &A,
+    chains: &mut [Chain],
+    ready: &mut CoreQueue,
+    comps: &mut [C],
+    tallies: &mut [Tally],
+    before: &Passing<G>,
+) -> Option<u32>
+    requires chained { AreChained (X.pieces expand.now) (A.lists accesses.now) }
+    requires few { length (all_events (X.pieces expand.now) (one_after_other (A.lists accesses.now))) < 2 ^ 32 - 1 }
+    requires count { length chains.old ≡ length (A.lists accesses.now) }
+    requires ahead { AreAhead (X.pieces expand.now) (A.lists accesses.now) chains.old }
+    requires fresh { AreFresh (one_after_other (A.lists accesses.now)) (states (A.lists accesses.now) chains.old) }
+    requires tallies { length tallies.old ≡ length comps.old }
+    requires nothing { AreTallied [] tallies.old }
+    requires empty { AreSmall 0 tallies.old }
+    requires begins { (first : List C) × IsWeaving C.serves C.floor C.stepped C.greatest (X.pieces expand.now) (A.lists accesses.now) first 0 chains.old ready.old.keys comps.old }
+    ensures all { IfSome result (λ events. (events ≡ length (all_events (X.pieces expand.now) (one_after_other (A.lists accesses.now)))) × ((first : List C) → IsWeaving C.serves C.floor C.stepped C.greatest (X.pieces expand.now) (A.lists accesses.now) first 0 chains.old ready.old.keys comps.old → (keys : List Key) × HaveFired C.stepped (X.pieces expand.now) (one_after_other (A.lists accesses.now)) first events (states (A.lists accesses.now) chains.new) keys comps.new tallies.new)) }
+    ensures tie { IfNone result ((first : List C) → IsWeaving C.serves C.floor C.stepped C.greatest (X.pieces expand.now) (A.lists accesses.now) first 0 chains.old ready.old.keys comps.old → HaveTie (weave C.stepped (all_events (X.pieces expand.now) (one_after_other (A.lists accesses.now))) first).fired) }
+    ensures count { length chains.new ≡ length chains.old }
+    ensures tallies { length tallies.new ≡ length tallies.old }
+{
+    rounds_rest_on_these::<X, C>();
+    if chains.len() != 1 {
+        return fire_all(expand, accesses, chains, ready, comps, tallies, before);
+    }
+    let chain = &mut chains[0];
+    let events = fire_alone(expand, accesses, chain, comps, tallies, before);
+    Some(events)
 }
 
 /// The delays of the cores, whose chains are over.

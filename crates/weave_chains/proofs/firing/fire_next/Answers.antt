@@ -1,6 +1,6 @@
 -- By the facts of a round.
-use Rattle.std.proofs.Common.{◌≡◌, ◌+◌, ◌-◌, ◌<◌, ◌∙◌, ℕ, [], List, None, Some, sym, ap, subst, length, get_or, drop, refl}
-use Rattle.std.specs.Prelude.{slice_set}
+use Rattle.std.proofs.Common.{◌≡◌, ◌-◌, ◌<◌, ◌∙◌, ℕ, [], List, None, Some, sym, ap, subst, length, get_or, drop, refl}
+use Rattle.std.specs.Prelude.{IfSome, slice_set}
 use Rattle.std.specs.List.{slice_get}
 use Rattle.std.proofs.lemmas.Option.{slice_get-get_or}
 use Rattle.zs_num.specs.declared.time.Key.{Key}
@@ -9,7 +9,7 @@ use Rattle.weave_chains.specs.declared.chain.Chain.{Chain}
 use Rattle.weave_chains.specs.declared.tally.Served.{Served}
 use Rattle.weave_chains.specs.Chains.{moved_on}
 use Rattle.weave_chains.specs.Listed.{list_of, one_after_other}
-use Rattle.weave_chains.specs.NextEvents.{IsAhead, KnowsAccess}
+use Rattle.weave_chains.specs.NextEvents.{IsAhead, KnowsAccess, StartsAt}
 use Rattle.weave_chains.specs.States.{state_of, states}
 use Rattle.weave_chains.specs.Tallies.{HasFiredNext}
 use Rattle.weave_chains.proofs.Popped.{get_some}
@@ -111,26 +111,6 @@ serve-outcome-requires-clause-small g c = λ lives outlives.
     let known : chain.next ≡ Some next = c.in-Some-next.is in
     λ comp is. R.small_here r key at chain there next known comp is
 
-pub serve-outcome-requires-clause-early : goal.serve-outcome-requires-clause-early
-serve-outcome-requires-clause-early g c = λ lives outlives.
-    let lists = g.A.Accesses.lists c.args.accesses.now in
-    let r : IsRound g.C.Component.serves g.C.Component.floor g.C.Component.stepped g.C.Component.greatest (g.X.Expand.pieces c.args.expand.now) lists c.args.chains.now c.args.ready.now.keys c.args.comps.now c.requires.come.0 c.requires.come.1 = record {
-      laws = c.rounds_rest_on_these.ensures c.args.expand.now;
-      chained = c.requires.chained;
-      count = c.requires.count;
-      ahead = c.requires.ahead;
-      ascending = c.first.ensures.ascending;
-      weaving = c.requires.come.2;
-    }
-    in
-    let key : Key = c.in-Some.key in
-    let at : slice_get c.args.ready.now.keys 0 ≡ Some key = sym c.first.ensures.first ∙ c.in-Some.is in
-    let chain : Chain = get_or c.args.chains.now key.number (record { access = 0; end = 0; place = 0; ended = []; last = None; next = None }) in
-    let there : slice_get c.args.chains.now key.number ≡ Some chain = slice_get-get_or c.args.chains.now key.number (record { access = 0; end = 0; place = 0; ended = []; last = None; next = None }) (R.within r key at) in
-    let next = c.in-Some-next.next in
-    let known : chain.next ≡ Some next = c.in-Some-next.is in
-    R.soon r key at chain there next known
-
 pub move_on-requires-clause-place : goal.move_on-requires-clause-place
 move_on-requires-clause-place g c =
     let lists = g.A.Accesses.lists c.args.accesses.now in
@@ -187,13 +167,13 @@ look_ahead-start-requires-clause-end g c =
     let there : slice_get c.args.chains.now key.number ≡ Some chain = slice_get-get_or c.args.chains.now key.number (record { access = 0; end = 0; place = 0; ended = []; last = None; next = None }) (R.within r key at) in
     let next = c.in-Some-next.next in
     let known : chain.next ≡ Some next = c.in-Some-next.is in
-    let comp = get_some c.args.comps.now next.piece.component (R.component_within r key at chain there next known) in
-    let step = g.C.Component.stepped comp.0 next.piece.kind key.start in
-    let served : c.serve-outcome.result.served ≡ R.served_by next.entry.core next.piece.component key.start (step.1 - key.start - next.piece.time) = c.serve-outcome.ensures.served comp.0 comp.1 in
-    let core : next.entry.core ≡ c.serve-outcome.result.served.core = sym (ap (λ (z : Served). z.core) served) in
+    let comp = get_some c.args.comps.now next.component (R.component_within r key at chain there next known) in
+    let step = g.C.Component.stepped comp.0 next.kind key.start in
+    let served : c.serve-outcome.result.served ≡ R.served_by next.core next.component key.start (step.1 - key.start - next.time) = c.serve-outcome.ensures.served comp.0 comp.1 in
+    let core : next.core ≡ c.serve-outcome.result.served.core = sym (ap (λ (z : Served). z.core) served) in
     let mine : key.number ≡ c.serve-outcome.result.served.core = sym (R.core_is r key at chain there next known) ∙ core in
     let moved = c.move_on.new.self in
-    let is_moved : (before : ℕ) → state_of before moved ≡ moved_on next.count (record { finish = step.1; at_zero_load = next.entry.start + next.piece.offset + next.piece.time }) (state_of before chain) =
+    let is_moved : (before : ℕ) → state_of before moved ≡ moved_on next.count (record { finish = step.1; at_zero_load = next.finish }) (state_of before chain) =
     λ before. c.move_on.ensures.moved before ∙ ap (λ d. moved_on next.count d (state_of before chain)) (c.serve-outcome.ensures.ended comp.0 comp.1)
     in
     let kept : moved.next ≡ chain.next = c.move_on.ensures.next in
@@ -217,13 +197,13 @@ look_ahead-start-requires-clause-place g c =
     let there : slice_get c.args.chains.now key.number ≡ Some chain = slice_get-get_or c.args.chains.now key.number (record { access = 0; end = 0; place = 0; ended = []; last = None; next = None }) (R.within r key at) in
     let next = c.in-Some-next.next in
     let known : chain.next ≡ Some next = c.in-Some-next.is in
-    let comp = get_some c.args.comps.now next.piece.component (R.component_within r key at chain there next known) in
-    let step = g.C.Component.stepped comp.0 next.piece.kind key.start in
-    let served : c.serve-outcome.result.served ≡ R.served_by next.entry.core next.piece.component key.start (step.1 - key.start - next.piece.time) = c.serve-outcome.ensures.served comp.0 comp.1 in
-    let core : next.entry.core ≡ c.serve-outcome.result.served.core = sym (ap (λ (z : Served). z.core) served) in
+    let comp = get_some c.args.comps.now next.component (R.component_within r key at chain there next known) in
+    let step = g.C.Component.stepped comp.0 next.kind key.start in
+    let served : c.serve-outcome.result.served ≡ R.served_by next.core next.component key.start (step.1 - key.start - next.time) = c.serve-outcome.ensures.served comp.0 comp.1 in
+    let core : next.core ≡ c.serve-outcome.result.served.core = sym (ap (λ (z : Served). z.core) served) in
     let mine : key.number ≡ c.serve-outcome.result.served.core = sym (R.core_is r key at chain there next known) ∙ core in
     let moved = c.move_on.new.self in
-    let is_moved : (before : ℕ) → state_of before moved ≡ moved_on next.count (record { finish = step.1; at_zero_load = next.entry.start + next.piece.offset + next.piece.time }) (state_of before chain) =
+    let is_moved : (before : ℕ) → state_of before moved ≡ moved_on next.count (record { finish = step.1; at_zero_load = next.finish }) (state_of before chain) =
     λ before. c.move_on.ensures.moved before ∙ ap (λ d. moved_on next.count d (state_of before chain)) (c.serve-outcome.ensures.ended comp.0 comp.1)
     in
     let kept : moved.next ≡ chain.next = c.move_on.ensures.next in
@@ -247,13 +227,13 @@ look_ahead-start-requires-clause-known g c =
     let there : slice_get c.args.chains.now key.number ≡ Some chain = slice_get-get_or c.args.chains.now key.number (record { access = 0; end = 0; place = 0; ended = []; last = None; next = None }) (R.within r key at) in
     let next = c.in-Some-next.next in
     let known : chain.next ≡ Some next = c.in-Some-next.is in
-    let comp = get_some c.args.comps.now next.piece.component (R.component_within r key at chain there next known) in
-    let step = g.C.Component.stepped comp.0 next.piece.kind key.start in
-    let served : c.serve-outcome.result.served ≡ R.served_by next.entry.core next.piece.component key.start (step.1 - key.start - next.piece.time) = c.serve-outcome.ensures.served comp.0 comp.1 in
-    let core : next.entry.core ≡ c.serve-outcome.result.served.core = sym (ap (λ (z : Served). z.core) served) in
+    let comp = get_some c.args.comps.now next.component (R.component_within r key at chain there next known) in
+    let step = g.C.Component.stepped comp.0 next.kind key.start in
+    let served : c.serve-outcome.result.served ≡ R.served_by next.core next.component key.start (step.1 - key.start - next.time) = c.serve-outcome.ensures.served comp.0 comp.1 in
+    let core : next.core ≡ c.serve-outcome.result.served.core = sym (ap (λ (z : Served). z.core) served) in
     let mine : key.number ≡ c.serve-outcome.result.served.core = sym (R.core_is r key at chain there next known) ∙ core in
     let moved = c.move_on.new.self in
-    let is_moved : (before : ℕ) → state_of before moved ≡ moved_on next.count (record { finish = step.1; at_zero_load = next.entry.start + next.piece.offset + next.piece.time }) (state_of before chain) =
+    let is_moved : (before : ℕ) → state_of before moved ≡ moved_on next.count (record { finish = step.1; at_zero_load = next.finish }) (state_of before chain) =
     λ before. c.move_on.ensures.moved before ∙ ap (λ d. moved_on next.count d (state_of before chain)) (c.serve-outcome.ensures.ended comp.0 comp.1)
     in
     let kept : moved.next ≡ chain.next = c.move_on.ensures.next in
@@ -277,13 +257,13 @@ look_ahead-start-requires-clause-soon g c =
     let there : slice_get c.args.chains.now key.number ≡ Some chain = slice_get-get_or c.args.chains.now key.number (record { access = 0; end = 0; place = 0; ended = []; last = None; next = None }) (R.within r key at) in
     let next = c.in-Some-next.next in
     let known : chain.next ≡ Some next = c.in-Some-next.is in
-    let comp = get_some c.args.comps.now next.piece.component (R.component_within r key at chain there next known) in
-    let step = g.C.Component.stepped comp.0 next.piece.kind key.start in
-    let served : c.serve-outcome.result.served ≡ R.served_by next.entry.core next.piece.component key.start (step.1 - key.start - next.piece.time) = c.serve-outcome.ensures.served comp.0 comp.1 in
-    let core : next.entry.core ≡ c.serve-outcome.result.served.core = sym (ap (λ (z : Served). z.core) served) in
+    let comp = get_some c.args.comps.now next.component (R.component_within r key at chain there next known) in
+    let step = g.C.Component.stepped comp.0 next.kind key.start in
+    let served : c.serve-outcome.result.served ≡ R.served_by next.core next.component key.start (step.1 - key.start - next.time) = c.serve-outcome.ensures.served comp.0 comp.1 in
+    let core : next.core ≡ c.serve-outcome.result.served.core = sym (ap (λ (z : Served). z.core) served) in
     let mine : key.number ≡ c.serve-outcome.result.served.core = sym (R.core_is r key at chain there next known) ∙ core in
     let moved = c.move_on.new.self in
-    let is_moved : (before : ℕ) → state_of before moved ≡ moved_on next.count (record { finish = step.1; at_zero_load = next.entry.start + next.piece.offset + next.piece.time }) (state_of before chain) =
+    let is_moved : (before : ℕ) → state_of before moved ≡ moved_on next.count (record { finish = step.1; at_zero_load = next.finish }) (state_of before chain) =
     λ before. c.move_on.ensures.moved before ∙ ap (λ d. moved_on next.count d (state_of before chain)) (c.serve-outcome.ensures.ended comp.0 comp.1)
     in
     let kept : moved.next ≡ chain.next = c.move_on.ensures.next in
@@ -323,13 +303,13 @@ settle-requires-clause-soon g c =
     let there : slice_get c.args.chains.now key.number ≡ Some chain = slice_get-get_or c.args.chains.now key.number (record { access = 0; end = 0; place = 0; ended = []; last = None; next = None }) (R.within r key at) in
     let next = c.in-Some-next.next in
     let known : chain.next ≡ Some next = c.in-Some-next.is in
-    let comp = get_some c.args.comps.now next.piece.component (R.component_within r key at chain there next known) in
-    let step = g.C.Component.stepped comp.0 next.piece.kind key.start in
-    let served : c.serve-outcome.result.served ≡ R.served_by next.entry.core next.piece.component key.start (step.1 - key.start - next.piece.time) = c.serve-outcome.ensures.served comp.0 comp.1 in
-    let core : next.entry.core ≡ c.serve-outcome.result.served.core = sym (ap (λ (z : Served). z.core) served) in
+    let comp = get_some c.args.comps.now next.component (R.component_within r key at chain there next known) in
+    let step = g.C.Component.stepped comp.0 next.kind key.start in
+    let served : c.serve-outcome.result.served ≡ R.served_by next.core next.component key.start (step.1 - key.start - next.time) = c.serve-outcome.ensures.served comp.0 comp.1 in
+    let core : next.core ≡ c.serve-outcome.result.served.core = sym (ap (λ (z : Served). z.core) served) in
     let mine : key.number ≡ c.serve-outcome.result.served.core = sym (R.core_is r key at chain there next known) ∙ core in
     let moved = c.move_on.new.self in
-    let is_moved : (before : ℕ) → state_of before moved ≡ moved_on next.count (record { finish = step.1; at_zero_load = next.entry.start + next.piece.offset + next.piece.time }) (state_of before chain) =
+    let is_moved : (before : ℕ) → state_of before moved ≡ moved_on next.count (record { finish = step.1; at_zero_load = next.finish }) (state_of before chain) =
     λ before. c.move_on.ensures.moved before ∙ ap (λ d. moved_on next.count d (state_of before chain)) (c.serve-outcome.ensures.ended comp.0 comp.1)
     in
     let kept : moved.next ≡ chain.next = c.move_on.ensures.next in
@@ -337,7 +317,10 @@ settle-requires-clause-soon g c =
     let looked : IsAhead (g.X.Expand.pieces c.args.expand.now) (list_of lists key.number) after =
     subst (λ i. IsAhead (g.X.Expand.pieces c.args.expand.now) (list_of lists i) after) (sym mine) c.look_ahead-start.ensures.ahead
     in
-    R.starts_soon r key at chain there next known comp.0 comp.1 moved is_moved kept after c.look_ahead-start.ensures.chain looked c.look_ahead-start.result c.look_ahead-start.ensures.start
+    let starts : IfSome c.look_ahead-start.result (StartsAt (g.X.Expand.pieces c.args.expand.now) (list_of lists key.number) moved) =
+    subst (λ i. IfSome c.look_ahead-start.result (StartsAt (g.X.Expand.pieces c.args.expand.now) (list_of lists i) moved)) (sym mine) c.look_ahead-start.ensures.start
+    in
+    R.starts_soon r key at chain there next known comp.0 comp.1 moved is_moved kept after c.look_ahead-start.ensures.chain looked c.look_ahead-start.result starts
 
 pub returns-clause-fired : goal.returns-clause-fired
 returns-clause-fired g c = λ first n w.
@@ -357,13 +340,13 @@ returns-clause-fired g c = λ first n w.
     let there : slice_get c.args.chains.now key.number ≡ Some chain = slice_get-get_or c.args.chains.now key.number (record { access = 0; end = 0; place = 0; ended = []; last = None; next = None }) (R.within r key at) in
     let next = c.in-Some-next.next in
     let known : chain.next ≡ Some next = c.in-Some-next.is in
-    let comp = get_some c.args.comps.now next.piece.component (R.component_within r key at chain there next known) in
-    let step = g.C.Component.stepped comp.0 next.piece.kind key.start in
-    let served : c.serve-outcome.result.served ≡ R.served_by next.entry.core next.piece.component key.start (step.1 - key.start - next.piece.time) = c.serve-outcome.ensures.served comp.0 comp.1 in
-    let core : next.entry.core ≡ c.serve-outcome.result.served.core = sym (ap (λ (z : Served). z.core) served) in
+    let comp = get_some c.args.comps.now next.component (R.component_within r key at chain there next known) in
+    let step = g.C.Component.stepped comp.0 next.kind key.start in
+    let served : c.serve-outcome.result.served ≡ R.served_by next.core next.component key.start (step.1 - key.start - next.time) = c.serve-outcome.ensures.served comp.0 comp.1 in
+    let core : next.core ≡ c.serve-outcome.result.served.core = sym (ap (λ (z : Served). z.core) served) in
     let mine : key.number ≡ c.serve-outcome.result.served.core = sym (R.core_is r key at chain there next known) ∙ core in
     let moved = c.move_on.new.self in
-    let is_moved : (before : ℕ) → state_of before moved ≡ moved_on next.count (record { finish = step.1; at_zero_load = next.entry.start + next.piece.offset + next.piece.time }) (state_of before chain) =
+    let is_moved : (before : ℕ) → state_of before moved ≡ moved_on next.count (record { finish = step.1; at_zero_load = next.finish }) (state_of before chain) =
     λ before. c.move_on.ensures.moved before ∙ ap (λ d. moved_on next.count d (state_of before chain)) (c.serve-outcome.ensures.ended comp.0 comp.1)
     in
     let kept : moved.next ≡ chain.next = c.move_on.ensures.next in
@@ -371,14 +354,17 @@ returns-clause-fired g c = λ first n w.
     let looked : IsAhead (g.X.Expand.pieces c.args.expand.now) (list_of lists key.number) after =
     subst (λ i. IsAhead (g.X.Expand.pieces c.args.expand.now) (list_of lists i) after) (sym mine) c.look_ahead-start.ensures.ahead
     in
+    let starts : IfSome c.look_ahead-start.result (StartsAt (g.X.Expand.pieces c.args.expand.now) (list_of lists key.number) moved) =
+    subst (λ i. IfSome c.look_ahead-start.result (StartsAt (g.X.Expand.pieces c.args.expand.now) (list_of lists i) moved)) (sym mine) c.look_ahead-start.ensures.start
+    in
     let keys : c.settle.new.self.keys ≡ with_next key.number c.look_ahead-start.result (drop 1 c.args.ready.now.keys) =
     ap (λ q. q.keys) c.settle.ensures
     in
     let Fires : List Key → List g.row.C.Denot → Served → Type 0 = λ ks cs s. HasFiredNext g.C.Component.stepped (g.X.Expand.pieces c.args.expand.now) (one_after_other lists) first n (states lists (slice_set c.args.chains.now key.number after)) ks cs s in
     subst (λ ks. Fires ks c.serve-outcome.new.comps c.serve-outcome.result.served) (sym keys)
     (subst (λ cs. Fires (with_next key.number c.look_ahead-start.result (drop 1 c.args.ready.now.keys)) cs c.serve-outcome.result.served) (sym (c.serve-outcome.ensures.comps comp.0 comp.1))
-    (subst (λ s. Fires (with_next key.number c.look_ahead-start.result (drop 1 c.args.ready.now.keys)) (slice_set c.args.comps.now next.piece.component step.0) s) (sym served)
-    (R.fired_next r key at chain there next known comp.0 comp.1 moved is_moved kept after c.look_ahead-start.ensures.chain looked c.look_ahead-start.result c.look_ahead-start.ensures.over c.look_ahead-start.ensures.start)))
+    (subst (λ s. Fires (with_next key.number c.look_ahead-start.result (drop 1 c.args.ready.now.keys)) (slice_set c.args.comps.now next.component step.0) s) (sym served)
+    (R.fired_next r key at chain there next known comp.0 comp.1 moved is_moved kept after c.look_ahead-start.ensures.chain looked c.look_ahead-start.result c.look_ahead-start.ensures.over starts)))
 
 pub returns-clause-ahead : goal.returns-clause-ahead
 returns-clause-ahead g c =
@@ -398,13 +384,13 @@ returns-clause-ahead g c =
     let there : slice_get c.args.chains.now key.number ≡ Some chain = slice_get-get_or c.args.chains.now key.number (record { access = 0; end = 0; place = 0; ended = []; last = None; next = None }) (R.within r key at) in
     let next = c.in-Some-next.next in
     let known : chain.next ≡ Some next = c.in-Some-next.is in
-    let comp = get_some c.args.comps.now next.piece.component (R.component_within r key at chain there next known) in
-    let step = g.C.Component.stepped comp.0 next.piece.kind key.start in
-    let served : c.serve-outcome.result.served ≡ R.served_by next.entry.core next.piece.component key.start (step.1 - key.start - next.piece.time) = c.serve-outcome.ensures.served comp.0 comp.1 in
-    let core : next.entry.core ≡ c.serve-outcome.result.served.core = sym (ap (λ (z : Served). z.core) served) in
+    let comp = get_some c.args.comps.now next.component (R.component_within r key at chain there next known) in
+    let step = g.C.Component.stepped comp.0 next.kind key.start in
+    let served : c.serve-outcome.result.served ≡ R.served_by next.core next.component key.start (step.1 - key.start - next.time) = c.serve-outcome.ensures.served comp.0 comp.1 in
+    let core : next.core ≡ c.serve-outcome.result.served.core = sym (ap (λ (z : Served). z.core) served) in
     let mine : key.number ≡ c.serve-outcome.result.served.core = sym (R.core_is r key at chain there next known) ∙ core in
     let moved = c.move_on.new.self in
-    let is_moved : (before : ℕ) → state_of before moved ≡ moved_on next.count (record { finish = step.1; at_zero_load = next.entry.start + next.piece.offset + next.piece.time }) (state_of before chain) =
+    let is_moved : (before : ℕ) → state_of before moved ≡ moved_on next.count (record { finish = step.1; at_zero_load = next.finish }) (state_of before chain) =
     λ before. c.move_on.ensures.moved before ∙ ap (λ d. moved_on next.count d (state_of before chain)) (c.serve-outcome.ensures.ended comp.0 comp.1)
     in
     let kept : moved.next ≡ chain.next = c.move_on.ensures.next in
@@ -432,13 +418,13 @@ returns-clause-component g c =
     let there : slice_get c.args.chains.now key.number ≡ Some chain = slice_get-get_or c.args.chains.now key.number (record { access = 0; end = 0; place = 0; ended = []; last = None; next = None }) (R.within r key at) in
     let next = c.in-Some-next.next in
     let known : chain.next ≡ Some next = c.in-Some-next.is in
-    let comp = get_some c.args.comps.now next.piece.component (R.component_within r key at chain there next known) in
-    let step = g.C.Component.stepped comp.0 next.piece.kind key.start in
-    let served : c.serve-outcome.result.served ≡ R.served_by next.entry.core next.piece.component key.start (step.1 - key.start - next.piece.time) = c.serve-outcome.ensures.served comp.0 comp.1 in
-    let core : next.entry.core ≡ c.serve-outcome.result.served.core = sym (ap (λ (z : Served). z.core) served) in
+    let comp = get_some c.args.comps.now next.component (R.component_within r key at chain there next known) in
+    let step = g.C.Component.stepped comp.0 next.kind key.start in
+    let served : c.serve-outcome.result.served ≡ R.served_by next.core next.component key.start (step.1 - key.start - next.time) = c.serve-outcome.ensures.served comp.0 comp.1 in
+    let core : next.core ≡ c.serve-outcome.result.served.core = sym (ap (λ (z : Served). z.core) served) in
     let mine : key.number ≡ c.serve-outcome.result.served.core = sym (R.core_is r key at chain there next known) ∙ core in
     let moved = c.move_on.new.self in
-    let is_moved : (before : ℕ) → state_of before moved ≡ moved_on next.count (record { finish = step.1; at_zero_load = next.entry.start + next.piece.offset + next.piece.time }) (state_of before chain) =
+    let is_moved : (before : ℕ) → state_of before moved ≡ moved_on next.count (record { finish = step.1; at_zero_load = next.finish }) (state_of before chain) =
     λ before. c.move_on.ensures.moved before ∙ ap (λ d. moved_on next.count d (state_of before chain)) (c.serve-outcome.ensures.ended comp.0 comp.1)
     in
     let kept : moved.next ≡ chain.next = c.move_on.ensures.next in

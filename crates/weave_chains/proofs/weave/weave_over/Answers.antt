@@ -5,6 +5,7 @@ use Rattle.event_graph.specs.EventGraph.{all_events}
 use Rattle.event_graph.specs.Firing.{FiredByTheRules}
 use Rattle.event_graph.specs.OneListWeave.{FiredEvent, weave, woven}
 use Rattle.event_graph.specs.TimingSolution.{IsSolution}
+use Rattle.weave_chains.specs.Beginning.{AreFresh}
 use Rattle.weave_chains.specs.GraphFacts.{ArePlaced}
 use Rattle.weave_chains.specs.Listed.{one_after_other}
 use Rattle.weave_chains.specs.Rounds.{AreInChains, HasCome, IsWeaving}
@@ -22,8 +23,13 @@ pub first_keys-requires-clause-begins : goal.first_keys-requires-clause-begins
 first_keys-requires-clause-begins g c =
     (c.args.comps.now, c.requires.fits, c.requires.small)
 
-pub fire_all-requires-clause-begins : goal.fire_all-requires-clause-begins
-fire_all-requires-clause-begins g c = λ lives outlives.
+pub fire_chains-requires-clause-fresh : goal.fire_chains-requires-clause-fresh
+fire_chains-requires-clause-fresh g c κs within =
+    let lists = g.A.Accesses.lists c.args.accesses.now in
+    subst (λ cs. AreFresh (one_after_other lists) cs) (sym c.first_keys.ensures.states) c.requires.fresh
+
+pub fire_chains-requires-clause-begins : goal.fire_chains-requires-clause-begins
+fire_chains-requires-clause-begins g c = λ lives outlives.
     let lists = g.A.Accesses.lists c.args.accesses.now in
     let pieces = g.X.Expand.pieces c.args.expand.now in
     let entries = one_after_other lists in
@@ -120,8 +126,9 @@ returns-clause-no_tie g c =
     let fired : List FiredEvent = (weave g.C.Component.stepped events comps).fired in
     let sol : IsSolution g.C.Component.stepped events comps (woven g.C.Component.stepped events comps) = (c.weave_is_the_one_solution.ensures events comps (woven g.C.Component.stepped events comps) placed.numbered c.requires.fits).1 refl in
     let all = c.in-Some.ensures.all in
-    let have : HaveFired g.C.Component.stepped pieces entries comps (length events) (states lists c.fire_all.new.chains) c.fire_all.new.ready.keys c.fire_all.new.comps c.fire_all.new.tallies =
-    subst (λ n. HaveFired g.C.Component.stepped pieces entries comps n (states lists c.fire_all.new.chains) c.fire_all.new.ready.keys c.fire_all.new.comps c.fire_all.new.tallies) all.0 (all.1 comps begins)
+    let left = all.1 comps begins in
+    let have : HaveFired g.C.Component.stepped pieces entries comps (length events) (states lists c.fire_chains.new.chains) left.0 c.fire_chains.new.comps c.fire_chains.new.tallies =
+    subst (λ n. HaveFired g.C.Component.stepped pieces entries comps n (states lists c.fire_chains.new.chains) left.0 c.fire_chains.new.comps c.fire_chains.new.tallies) all.0 left.1
     in
     whole.no_tie_is g.C.Component.stepped pieces entries placed comps
     (c.each_event_fires_once.ensures events comps placed.numbered c.requires.fits) (c.events_fire_in_order.ensures events comps placed.numbered c.requires.fits)
@@ -161,14 +168,15 @@ returns-clause-woven g c =
     let fired : List FiredEvent = (weave g.C.Component.stepped events comps).fired in
     let sol : IsSolution g.C.Component.stepped events comps (woven g.C.Component.stepped events comps) = (c.weave_is_the_one_solution.ensures events comps (woven g.C.Component.stepped events comps) placed.numbered c.requires.fits).1 refl in
     let all = c.in-Some.ensures.all in
-    let have : HaveFired g.C.Component.stepped pieces entries comps (length events) (states lists c.fire_all.new.chains) c.fire_all.new.ready.keys c.fire_all.new.comps c.fire_all.new.tallies =
-    subst (λ n. HaveFired g.C.Component.stepped pieces entries comps n (states lists c.fire_all.new.chains) c.fire_all.new.ready.keys c.fire_all.new.comps c.fire_all.new.tallies) all.0 (all.1 comps begins)
+    let left = all.1 comps begins in
+    let have : HaveFired g.C.Component.stepped pieces entries comps (length events) (states lists c.fire_chains.new.chains) left.0 c.fire_chains.new.comps c.fire_chains.new.tallies =
+    subst (λ n. HaveFired g.C.Component.stepped pieces entries comps n (states lists c.fire_chains.new.chains) left.0 c.fire_chains.new.comps c.fire_chains.new.tallies) all.0 left.1
     in
     whole.woven_is g.C.Component.stepped pieces entries placed comps
     (c.each_event_fires_once.ensures events comps placed.numbered c.requires.fits) (c.events_fire_in_order.ensures events comps placed.numbered c.requires.fits)
     (by_all (FiredByTheRules events fired) fired (c.events_fire_by_the_rules.ensures events comps (length events) placed.numbered c.requires.fits))
     (λ core e found. c.cores_wait_for_the_same_event.ensures.there core events e placed.numbered found)
     (c.times_so_far_become_the_weaves.ensures events comps placed.numbered c.requires.fits) sol.events_are
-    (length lists) (states lists c.fire_all.new.chains) c.fire_all.new.ready.keys c.fire_all.new.comps c.fire_all.new.tallies _ have
-    (states_length lists c.fire_all.new.chains ∙ (c.fire_all.ensures.count ∙ (c.first_keys.ensures.count ∙ c.requires.cores)))
-    (c.fire_all.ensures.tallies ∙ c.requires.tallies) (c.in_ok-delays.ensures ∙ sym (same_delays lists 0 c.fire_all.new.chains)) c.in_ok-counts.ensures all.0
+    (length lists) (states lists c.fire_chains.new.chains) left.0 c.fire_chains.new.comps c.fire_chains.new.tallies _ have
+    (states_length lists c.fire_chains.new.chains ∙ (c.fire_chains.ensures.count ∙ (c.first_keys.ensures.count ∙ c.requires.cores)))
+    (c.fire_chains.ensures.tallies ∙ c.requires.tallies) (c.in_ok-delays.ensures ∙ sym (same_delays lists 0 c.fire_chains.new.chains)) c.in_ok-counts.ensures all.0
