@@ -40,7 +40,7 @@ pub record IsReady (core : CoreState) : Type 0 where
   pub fetched : core.is_fetched ≡ false
 
 -- none was fetched, and so nothing is to be said of one that was
-unfetched-whatever : (P : Type 0) (fetched : Bool) → fetched ≡ false → IsTrue fetched → P
+pub unfetched-whatever : (P : Type 0) (fetched : Bool) → fetched ≡ false → IsTrue fetched → P
 unfetched-whatever P fetched e is = absurd (true≢false (sym is ∙ e))
 
 -- no reply is waited for

@@ -20,13 +20,13 @@ not_fetched : (fetched : Bool) → not fetched ≡ true → fetched ≡ false
 not_fetched true e = cc
 not_fetched false e = refl
 
-idle-ready : (core : CoreState) → is_idle core ≡ true → IsSoundCore core → IsReady core
+pub idle-ready : (core : CoreState) → is_idle core ≡ true → IsSoundCore core → IsReady core
 idle-ready core idle s =
     let parts = and_parts (is_free core) (not core.is_fetched) idle in
     let r = unfetched-ready core parts.0 s in record { sound = s; halted = r.halted; instruction = r.instruction; fetched = not_fetched core.is_fetched parts.1 }
 
 module _ (ranges : (word : ℕ) (i : Inst) → decoded word ≡ Some i → (i.rd < 32) × (i.rs1 < 32) × (i.rs2 < 32)) (image : MemoryImage) where
-  led-ready : (line : Option ℕ) (n : ℕ) (core : CoreState) (registers after : List ℕ) (pc pc_after : ℕ) → LeadsTo line n image registers pc after pc_after
+  pub led-ready : (line : Option ℕ) (n : ℕ) (core : CoreState) (registers after : List ℕ) (pc pc_after : ℕ) → LeadsTo line n image registers pc after pc_after
       → IsReady (at core registers pc) → IsReady (at core after pc_after)
   led-ready line zero core registers after pc pc_after led ready =
       subst (λ r. IsReady (at core r pc_after)) (sym led.0) (subst (λ p. IsReady (at core registers p)) (sym led.1) ready)

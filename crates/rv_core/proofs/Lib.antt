@@ -2,6 +2,7 @@ pub mod ByteLoads
 pub mod SignExtension
 pub mod Kept
 pub mod Leading
+pub mod Going
 pub mod Fetches
 pub mod Reached
 pub mod Executes

@@ -10,3 +10,5 @@ pub mod Single
 pub mod Progress
 pub mod Sound
 pub mod Laws
+pub mod Port
+pub mod Hits

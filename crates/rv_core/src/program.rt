@@ -1,12 +1,13 @@
 //! What a core reads its instructions from.
-ghost use Rattle.std.specs.Prelude.{◌≡◌, ◌+◌, ◌<◌, ◌≤◌, ◌^◌, IfSome, None, Some};
+ghost use Rattle.std.specs.Prelude.{◌≡◌, ◌+◌, ◌%◌, ◌<◌, ◌≤◌, ◌^◌, IfSome, IsSome, IsTrue, None, Some};
 ghost use Rattle.elf_load.specs.MemoryImage.{MemoryImage};
 ghost use Rattle.rv_decode.specs.InstructionTable.{decoded};
 ghost use Rattle.rv_core.specs.Fetch.{fetched_at, of_decoded};
 ghost use Rattle.rv_core.specs.Decoded.{HasRegisters};
 ghost use Rattle.rv_core.specs.Executions.{LeadsTo, LiesIn, Meets};
+ghost use Rattle.rv_core.specs.Hits.{HasGoneOn};
 
-use crate::{MemoryRange, Ran};
+use crate::{Came, MemoryRange, Port, Ran, Stint};
 use elf_load::Image;
 use rv_decode::{Inst, decode};
 
@@ -60,6 +61,34 @@ pub trait Program {
         ensures early { IfSome result.met (λ single. result.count < most) }
         ensures met { IfSome result.met (λ single. Meets (image self.now) memory.now registers.new result.pc single) }
         ensures lies { IfSome result.met (λ single. LiesIn (Some line) result.pc) };
+
+    /// Executes such instructions, and loads and stores that the port serves at once as hits, from
+    /// the one at `pc` on, or none: how many, the program chooses. For a core that fetches, and whose
+    /// latest fetch was of a line, which is given, it makes the fetches that are hits, too.
+    fn run_hits<Q: Port>(
+        &self,
+        registers: &mut [u64; 32],
+        pc: u64,
+        line: Option<u64>,
+        memory: &MemoryRange,
+        stint: &Stint,
+        port: &mut Q,
+    ) -> Came
+        requires reach { memory.now.base + memory.now.size ≤ 2 ^ 48 }
+        requires base { Q.base port.old ≡ memory.now.base }
+        requires size { Q.size port.old ≡ memory.now.size }
+        requires l1i { IsSome line → IsTrue (Q.l1i port.old) }
+        requires aligned { IsSome line → pc % 4 ≡ 0 }
+        requires room { stint.now.accesses ≤ Q.room port.old }
+        requires begins { stint.now.clock ≤ stint.now.end }
+        ensures gone { HasGoneOn (image self.now) memory.now stint.now Q.gives Q.core Q.logged Q.room result.accesses (record { registers = registers.old; pc = pc; line = line; clock = stint.now.clock; count = 0; port = port.old }) (record { registers = registers.new; pc = result.pc; line = result.line; clock = result.clock; count = result.count; port = port.new }) }
+        ensures aligned { IsSome line → result.pc % 4 ≡ 0 }
+        ensures line { IsSome line → IsSome result.line }
+        ensures no_line { line ≡ None → result.line ≡ None }
+        ensures port_core { Q.core port.new ≡ Q.core port.old }
+        ensures port_base { Q.base port.new ≡ Q.base port.old }
+        ensures port_size { Q.size port.new ≡ Q.size port.old }
+        ensures port_l1i { Q.l1i port.new ≡ Q.l1i port.old };
 }
 
 impl Program for Image {
@@ -100,6 +129,19 @@ impl Program for Image {
         _line: u64,
     ) -> Ran {
         Ran::nowhere(pc)
+    }
+
+    #[inline(always)]
+    fn run_hits<Q: Port>(
+        &self,
+        _registers: &mut [u64; 32],
+        pc: u64,
+        line: Option<u64>,
+        _memory: &MemoryRange,
+        stint: &Stint,
+        _port: &mut Q,
+    ) -> Came {
+        Came::nowhere(pc, line, stint.clock)
     }
 }
 

@@ -122,7 +122,7 @@ impl Core {
 
 /// Whether so many bytes from an address on are in memory, and in one line.
 #[inline(always)]
-fn is_single(memory: &MemoryRange, addr: u64, width: u8) -> bool
+pub fn is_single(memory: &MemoryRange, addr: u64, width: u8) -> bool
     requires { memory.now.base + memory.now.size ≤ 2 ^ 48 }
     ensures { result ≡ is_single memory.now addr width }
 {

@@ -10,6 +10,7 @@ ghost use Rattle.rv_core.specs.Effect.{ended, goes_on, goes_through, goes_to, ha
 ghost use Rattle.rv_core.specs.Fetch.{fetched_at};
 ghost use Rattle.rv_core.specs.Decoded.{HasRegisters};
 ghost use Rattle.rv_core.specs.Executions.{at, LeadsTo};
+ghost use Rattle.rv_core.specs.Hits.{may_go_on, moment_of, HasGoneOn, IsOnItsWay};
 ghost use Rattle.rv_core.specs.Progress.{ending_of, IsNarrow};
 ghost use Rattle.rv_core.specs.Asked.{is_idle, is_in_progress};
 ghost use Rattle.rv_core.specs.Single.{begun};
@@ -18,7 +19,7 @@ ghost use Rattle.rv_core.specs.Step.{answered, asks_for_instruction, console_byt
 use crate::pairing::{is_paired, pair};
 use crate::progress::{Progress, Reply};
 use crate::replies::{received, reply_to};
-use crate::{Destination, Fetched, MemoryRange, Program, Ran, Single, Why};
+use crate::{Came, Destination, Fetched, MemoryRange, Port, Program, Ran, Single, Stint, Why};
 use rv_decode::Inst;
 use std::marker::Model;
 use zs_num::{LINE, Pairing, Request};
@@ -242,6 +243,60 @@ impl Core {
         let ran = program.run_in_line(&mut self.registers, self.pc, most, &self.memory, line);
         self.pc = ran.pc;
         ran
+    }
+
+    /// Whether the core may go on by itself: nothing is in progress, and it has fetched a line, if it
+    /// fetches.
+    #[inline(always)]
+    pub fn may_go_on(&self) -> bool
+        ensures value { result ≡ may_go_on self.now }
+        ensures idle { IsTrue result → IsTrue (is_idle self.now) }
+        ensures line { IsTrue result → IsTrue self.now.fetching → IsSome self.now.fetched_line }
+    {
+        self.is_free()
+            && !matches!(self.progress, Progress::Fetched)
+            && (!self.fetching || self.line.is_some())
+    }
+
+    /// Lets the program go on with what the port serves at once: instructions without an access, and
+    /// accesses that are hits. How far, the program chooses.
+    #[inline(always)]
+    pub fn run_hits<P: Program, Q: Port>(
+        &mut self,
+        program: &P,
+        stint: &Stint,
+        port: &mut Q,
+    ) -> Came
+        requires idle { IsTrue (is_idle self.old) }
+        requires line { IsTrue self.old.fetching → IsSome self.old.fetched_line }
+        requires base { Q.base port.old ≡ self.old.memory.base }
+        requires size { Q.size port.old ≡ self.old.memory.size }
+        requires l1i { IsTrue self.old.fetching → IsTrue (Q.l1i port.old) }
+        requires room { stint.now.accesses ≤ Q.room port.old }
+        requires begins { stint.now.clock ≤ stint.now.end }
+        ensures gone { HasGoneOn (P.image program.now) self.old.memory stint.now Q.gives Q.core Q.logged Q.room result.accesses (moment_of self.old stint.now.clock 0 port.old) (moment_of self.new result.clock result.count port.new) }
+        ensures same { IsOnItsWay self.old self.new }
+        ensures idle { IsTrue (is_idle self.new) }
+        ensures line { IsTrue self.new.fetching → IsSome self.new.fetched_line }
+        ensures sound { IsSoundCore self.new }
+        ensures port_core { Q.core port.new ≡ Q.core port.old }
+        ensures port_base { Q.base port.new ≡ Q.base port.old }
+        ensures port_size { Q.size port.new ≡ Q.size port.old }
+        ensures port_l1i { Q.l1i port.new ≡ Q.l1i port.old }
+    {
+        rv_decode::laws::fields_are_in_range();
+        let line = if self.fetching { self.line } else { None };
+        let came = program.run_hits(
+            &mut self.registers,
+            self.pc,
+            line,
+            &self.memory,
+            stint,
+            port,
+        );
+        self.pc = came.pc;
+        self.line = if self.fetching { came.line } else { self.line };
+        came
     }
 
     /// Writes a register, unless it is x0, and goes on at an address.
