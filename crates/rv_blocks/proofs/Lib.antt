@@ -1,5 +1,10 @@
 pub mod Accesses
+pub mod Coming
+pub mod Fetching
 pub mod Joining
 pub mod Lists
 pub mod Standing
+pub mod Serving
 pub mod Steps
+pub mod Stopping
+pub mod Shifts

@@ -1,6 +1,6 @@
 -- What slots do is what the instructions do for which they are made.
 use Rattle.std.proofs.Common.{◌≡◌, ℕ, ◌+◌, ◌-◌, ◌*◌, ◌/◌, ◌%◌, ◌^◌, ◌≤◌, Bool, true, false, List, Option, Some, None, refl, ap, sym, ◌∙◌, arith, subst, true≢false, IsTrue, nat_le, nat_lt, ◌==◌, ◌&&◌}
-use Rattle.std.specs.Prelude.{if◌then◌else◌, slice_index, unwrap_or, IfSome}
+use Rattle.std.specs.Prelude.{if◌then◌else◌, is_some, slice_index, unwrap_or, IfSome}
 use Rattle.std.proofs.lemmas.Bool.{and_parts, eq-eqb, eqb-true, leb-true}
 use Rattle.rv_alu.specs.Branch.{is_taken}
 use Rattle.rv_decode.specs.declared.inst.Inst.{Inst}
@@ -10,16 +10,16 @@ use Rattle.rv_alu.specs.Computing.{is_arithmetic, is_branch}
 use Rattle.rv_core.specs.CoreState.{CoreState}
 use Rattle.rv_core.specs.Effect.{branches as core_branches, effect, following, goes_on, goes_to, immediate_number, jumps, relative, with_register}
 use Rattle.rv_core.specs.declared.program.Fetched.TheVariants.{Instruction}
-use Rattle.rv_core.specs.Fetch.{fetched_at}
+use Rattle.rv_core.specs.Fetch.{fetched_at, of_word}
 use Rattle.rv_core.specs.Step.{after_fetch, executed}
 use Rattle.rv_blocks.specs.declared.slot.Op.{Op}
 use Rattle.rv_blocks.specs.declared.slot.Op.TheVariants as op
-use Rattle.elf_load.specs.MemoryImage.{MemoryImage}
+use Rattle.elf_load.specs.MemoryImage.{MemoryImage, fetched_word}
 use Rattle.rv_blocks.specs.declared.slot.Slot.{Slot}
 use Rattle.rv_core.specs.Executions.{at}
-use Rattle.rv_blocks.specs.Slots.{Placed, Stretch, address_of, branches, does, is_setting, links_to_place, name_of, place_within, loads_by, sets, stores_by, AccessesAs, AccessesFor, ChangesNothing, DoesAs, GivesNumber, IsAccess, IsMeant, StandsFor}
+use Rattle.rv_blocks.specs.Slots.{Placed, Stretch, address_of, branches, does, is_setting, links_to_place, name_of, place_within, loads_by, sets, stores_by, AccessesAs, AccessesFor, ChangesNothing, DoesAs, GivesNumber, IsAccess, IsFound, IsMeant, StandsFor}
 
-next_pc : (first place : ℕ) → first + 4 * (place + 1) ≤ 2 ^ 48 → (first + 4 * place + 4) % 2 ^ 64 ≡ first + 4 * (place + 1)
+pub next_pc : (first place : ℕ) → first + 4 * (place + 1) ≤ 2 ^ 48 → (first + 4 * place + 4) % 2 ^ 64 ≡ first + 4 * (place + 1)
 next_pc first place room = omega (arith, room)
 
 -- the core goes on at the next instruction
@@ -202,12 +202,13 @@ does_whatever name.Lui stretch slot left s = refl
 does_whatever _ stretch slot left s = refl
 
 pub meant_whatever : (left : ℕ) (image : MemoryImage) (stretch : Stretch) (place : ℕ) (slot : Slot) → IsMeant image stretch place slot → IsMeant image stretch place (record slot { left = left })
-meant_whatever left image stretch place slot (fit, stands, accesses) = (
-  record { rd = fit.rd; rs1 = fit.rs1; rs2 = fit.rs2; writes = fit.writes; leads = fit.leads; falls = fit.falls },
+meant_whatever left image stretch place slot (fit, stands, accesses, found) = (
+  record { rd = fit.rd; rs1 = fit.rs1; rs2 = fit.rs2; writes = fit.writes; leads = fit.leads; falls = fit.falls; accessed = fit.accessed },
   (λ core registers.
       let P : Option Placed → Type 0 = λ o. IfSome o (λ next. executed image (at core registers (address_of stretch place)) ≡ at core next.registers (address_of stretch next.place)) in
       subst P (sym (does_whatever (name_of slot) stretch slot left (record { registers = registers; place = place }))) (stands core registers)),
   (λ core registers. accesses core registers),
+  found,
 )
 
 -- the slot that is left to the core is right anywhere
@@ -224,10 +225,16 @@ left_meant image stretch place = (
     writes = λ holds. absurd (true≢false (sym holds));
     leads = λ holds. absurd (true≢false (sym holds));
     falls = λ holds. absurd (true≢false (sym holds));
+    accessed = λ holds. absurd (true≢false (sym holds));
   },
   (λ core registers. tt),
   (λ core registers. tt),
+  (λ other. absurd (true≢false other)),
 )
+
+word_found : (word : Option ℕ) (i : Inst) → of_word word ≡ Instruction i → IsTrue (is_some word)
+word_found None i e = cc
+word_found (Some word) i e = refl
 
 -- a slot that does as an instruction stands for it where it is fetched
 pub stands_for : (image : MemoryImage) (stretch : Stretch) (place : ℕ) (i : Inst) (slot : Slot) → fetched_at image (address_of stretch place) ≡ Instruction i
@@ -244,3 +251,8 @@ accesses_for image stretch place i slot fetched done core registers =
     let from : CoreState = at core registers (address_of stretch place) in
     let P : CoreState → Type 0 = λ after. IsAccess slot.op after (loads_by slot from) (stores_by slot from) in
     subst P (sym (ap (λ f. after_fetch f from) fetched)) (done core registers)
+
+-- and an instruction stands there
+pub found_at : (image : MemoryImage) (stretch : Stretch) (place : ℕ) (i : Inst) (slot : Slot) → fetched_at image (address_of stretch place) ≡ Instruction i → IsFound image stretch place slot
+unfolding fetched_at
+found_at image stretch place i slot fetched other = word_found (fetched_word image.segments (address_of stretch place)) i fetched

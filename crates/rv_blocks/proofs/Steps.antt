@@ -1,6 +1,7 @@
 -- A slot that goes on is one instruction more, and what it costs is what is left of its block.
-use Rattle.std.proofs.Common.{◌≡◌, ℕ, zero, suc, ◌+◌, ◌-◌, ◌*◌, ◌<◌, ◌≤◌, Bool, true, false, List, Option, Some, None, inr, length, refl, ap, sym, ◌∙◌, arith, subst, IsTrue}
+use Rattle.std.proofs.Common.{get_or, ◌≡◌, ℕ, zero, suc, ◌+◌, ◌-◌, ◌*◌, ◌<◌, ◌≤◌, Bool, true, false, List, Option, Some, None, inr, length, refl, ap, sym, ◌∙◌, arith, subst, IsTrue}
 use Rattle.std.specs.Prelude.{if◌then◌else◌, slice_get, IfSome}
+use Rattle.std.proofs.lemmas.Option.{slice_get-get_or}
 use Rattle.elf_load.specs.MemoryImage.{MemoryImage}
 use Rattle.rv_core.specs.CoreState.{CoreState}
 use Rattle.rv_core.specs.Step.{executed}
@@ -19,15 +20,6 @@ cost_off false m n fails = refl
 cost_some : (test : Bool) (m : ℕ) → 1 ≤ (if test then 1 + m else 1)
 cost_some true m = omega arith
 cost_some false m = omega arith
-
-one_more : (budget left cost after : ℕ) → cost ≡ 1 + after → left + cost ≤ budget → suc (budget - (left + cost)) ≡ budget - (left + after)
-one_more budget left cost after more paid = omega (arith, more, paid)
-
-last_one : (budget left cost : ℕ) → cost ≡ 1 → left + cost ≤ budget → suc (budget - (left + cost)) ≡ budget - left
-last_one budget left cost last paid = omega (arith, last, paid)
-
-paid_next : (budget left cost next : ℕ) → next ≡ cost → cost ≤ left → budget - left ≡ budget - (left - cost + next)
-paid_next budget left cost next same enough = omega (arith, same, enough)
 
 module _ (image : MemoryImage) (first : ℕ) (slots : List Slot) (are : AreSlots image first slots) (place : ℕ) (slot : Slot) (here : slice_get slots place ≡ Some slot) where
   pub costs : left_at slots place ≡ slot.left
@@ -50,25 +42,14 @@ module _ (image : MemoryImage) (first : ℕ) (slots : List Slot) (are : AreSlots
       let P : CoreState → Option Placed → Type 0 = λ core o. IfSome o (λ after. executed image (at core y (first + 4 * place)) ≡ at core after.registers (first + 4 * after.place)) in
       (y, (first + 4 * place, (led, lies, λ core. subst (P core) (sym value) (are.stand place slot here core y))))
 
-  pub goes_on : (budget left : ℕ) (x y z : List ℕ) (pc : ℕ) → left + left_at slots place ≤ budget
-      → LeadsTo None (budget - (left + left_at slots place)) image x pc y (first + 4 * place)
-      → Some (record { registers = z; place = place + 1 }) ≡ does (name_of slot) (record { first = first; count = length slots }) slot (record { registers = y; place = place })
-      → IsTrue (is_plain (name_of slot))
-      → LeadsTo None (budget - (left + left_at slots (place + 1))) image x pc z (first + 4 * (place + 1))
-  goes_on budget left x y z pc paid led value plain =
-      let P : ℕ → Type 0 = λ n. LeadsTo None n image x pc z (first + 4 * (place + 1)) in
-      subst P (one_more budget left (left_at slots place) (left_at slots (place + 1)) (costs_more plain) paid)
-      (one_further None (budget - (left + left_at slots place)) x y z pc (place + 1) led tt value)
-
-  pub goes_to : (budget left : ℕ) (x y z : List ℕ) (pc next : ℕ) → left + left_at slots place ≤ budget
-      → LeadsTo None (budget - (left + left_at slots place)) image x pc y (first + 4 * place)
+  -- one instruction more, where so much of a budget is not spent
+  pub leads_further : (line : Option ℕ) (budget unspent rest : ℕ) (x y z : List ℕ) (pc next : ℕ) → unspent ≡ 1 + rest → unspent ≤ budget
+      → LeadsTo line (budget - unspent) image x pc y (first + 4 * place) → LiesIn line (first + 4 * place)
       → Some (record { registers = z; place = next }) ≡ does (name_of slot) (record { first = first; count = length slots }) slot (record { registers = y; place = place })
-      → is_plain (name_of slot) ≡ false
-      → LeadsTo None (budget - left) image x pc z (first + 4 * next)
-  goes_to budget left x y z pc next paid led value ends =
-      let P : ℕ → Type 0 = λ n. LeadsTo None n image x pc z (first + 4 * next) in
-      subst P (last_one budget left (left_at slots place) (costs_last ends) paid)
-      (one_further None (budget - (left + left_at slots place)) x y z pc next led tt value)
+      → LeadsTo line (budget - rest) image x pc z (first + 4 * next)
+  leads_further line budget unspent rest x y z pc next more paid led lies value =
+      let again : suc (budget - unspent) ≡ budget - rest = omega (arith, more, paid) in
+      subst (λ n. LeadsTo line n image x pc z (first + 4 * next)) again (one_further line (budget - unspent) x y z pc next led lies value)
 
   pub walks_on : (line : Option ℕ) (most left : ℕ) (x y z : List ℕ) (pc next : ℕ) → 0 < left → left ≤ most
       → LeadsTo line (most - left) image x pc y (first + 4 * place) → LiesIn line (first + 4 * place)
@@ -89,6 +70,10 @@ module _ (image : MemoryImage) (first : ℕ) (slots : List Slot) (are : AreSlots
       let apart : Nothing y slot = subst (λ r. Nothing r slot) (sym same) (sym none) in
       inr (some, subst (λ (o : Option Slot). IfSome o (Nothing y)) (sym here) apart)
 
+-- each slot has a cost
+pub place_costs : (image : MemoryImage) (first : ℕ) (slots : List Slot) → AreSlots image first slots → (place : ℕ) (other : Slot) → place < length slots → 1 ≤ left_at slots place
+place_costs image first slots are place other within = costs_some image first slots are place (get_or slots place other) (slice_get-get_or slots place other within)
+
 -- instructions behind others
 pub led_together : (line : Option ℕ) (image : MemoryImage) (x y z : List ℕ) (pc pc_between pc_after : ℕ) (m n : ℕ) → LeadsTo line m image x pc y pc_between → LeadsTo line n image y pc_between z pc_after
     → LeadsTo line (n + m) image x pc z pc_after
@@ -100,13 +85,6 @@ led_together line image x y z pc pc_between pc_after m zero before after =
 led_together line image x y z pc pc_between pc_after m (suc n) before (r, (p, (led, lies, leads))) =
     let count : suc (n + m) ≡ suc n + m = omega arith in
     subst (λ k. LeadsTo line k image x pc z pc_after) count (r, (p, (led_together line image x y r pc pc_between p m n before led, lies, leads)))
-
-pub pays : (image : MemoryImage) (budget left cost : ℕ) (slots : List Slot) (x z : List ℕ) (pc pc_after next : ℕ) → left_at slots next ≡ cost → cost ≤ left
-    → LeadsTo None (budget - left) image x pc z pc_after
-    → LeadsTo None (budget - (left - cost + left_at slots next)) image x pc z pc_after
-pays image budget left cost slots x z pc pc_after next same enough led =
-    let P : ℕ → Type 0 = λ n. LeadsTo None n image x pc z pc_after in
-    subst P (paid_next budget left cost (left_at slots next) same enough) led
 
 -- ---- what is answered
 

@@ -1,3 +1,5 @@
+pub mod Coming
 pub mod Decoded
 pub mod Flows
+pub mod Served
 pub mod Slots

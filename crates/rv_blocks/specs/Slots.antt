@@ -1,6 +1,6 @@
 -- What a slot does, and what the slots of a program are.
-use Rattle.std.specs.Prelude.{◌≡◌, ◌≢◌, ℕ, ◌+◌, ◌-◌, ◌*◌, ◌/◌, ◌%◌, ◌^◌, ◌<◌, ◌≤◌, nat_le, nat_lt, ◌==◌, Bool, true, false, ◌&&◌, ◌||◌, if◌then◌else◌, List, length, slice_get, slice_index, Option, Some, None, ◌⊎◌, IfSome, IsTrue}
-use Rattle.elf_load.specs.MemoryImage.{MemoryImage}
+use Rattle.std.specs.Prelude.{◌≡◌, ◌≢◌, ℕ, ◌+◌, ◌-◌, ◌*◌, ◌/◌, ◌%◌, ◌^◌, ◌<◌, ◌≤◌, nat_le, nat_lt, ◌==◌, Bool, true, false, ◌&&◌, ◌||◌, if◌then◌else◌, List, length, slice_get, slice_index, Option, Some, None, is_some, ◌⊎◌, IfSome, IsTrue}
+use Rattle.elf_load.specs.MemoryImage.{MemoryImage, fetched_word}
 use Rattle.rv_decode.specs.declared.inst.Inst.{Inst}
 use Rattle.rv_decode.specs.declared.name.Name.{Name}
 use Rattle.rv_decode.specs.declared.name.Name.TheVariants as name
@@ -265,7 +265,8 @@ has_place n = is_branch n
 
 -- ---- what each slot keeps
 
--- Registers are there, and one that is written whatever comes is not x0. A slot that leads to another has it.
+-- Registers are there, and one that is written whatever comes is not x0. A slot that leads to another has it, and a load
+-- or a store has one behind it.
 pub record IsFit (count place : ℕ) (slot : Slot) : Type 0 where
   pub rd : slot.rd < 32
   pub rs1 : slot.rs1 < 32
@@ -273,6 +274,7 @@ pub record IsFit (count place : ℕ) (slot : Slot) : Type 0 where
   pub writes : IsTrue (is_setting (name_of slot)) → slot.rd ≢ 0
   pub leads : IsTrue (has_place (name_of slot)) → slot.value < count
   pub falls : IsTrue (may_fall (name_of slot)) → place + 1 < count
+  pub accessed : IsTrue (is_access slot.op) → place + 1 < count
 
 -- What the slot at a place does is what the instruction at its address does to a core.
 abbrev pub StandsFor : MemoryImage → Stretch → (place : ℕ) → Slot → Type 0
@@ -317,10 +319,19 @@ Each slots P = (place : ℕ) (slot : Slot) → slice_get slots place ≡ Some sl
 abbrev pub IsCounted : List Slot → (place : ℕ) → Slot → Type 0
 IsCounted slots place slot = slot.left ≡ (if is_plain (name_of slot) then 1 + left_at slots (place + 1) else 1)
 
+-- the name of the slots that are left to the core, whatever stands there
+abbrev pub is_ebreak : Name → Bool
+is_ebreak name.Ebreak = true
+is_ebreak _ = false
+
+-- An instruction stands at the address of any other slot.
+abbrev pub IsFound : MemoryImage → Stretch → (place : ℕ) → Slot → Type 0
+IsFound image stretch place slot = is_ebreak slot.name ≡ false → IsTrue (is_some (fetched_word image.segments (address_of stretch place)))
+
 -- what a slot at a place keeps but for its cost
 abbrev pub IsMeant : MemoryImage → Stretch → (place : ℕ) → Slot → Type 0
 IsMeant image stretch place slot =
-    IsFit stretch.count place slot × StandsFor image stretch place slot × AccessesFor image stretch place slot
+    IsFit stretch.count place slot × StandsFor image stretch place slot × AccessesFor image stretch place slot × IsFound image stretch place slot
 
 abbrev pub AreMeantSoFar : MemoryImage → Stretch → List Slot → Type 0
 AreMeantSoFar image stretch slots = Each slots (IsMeant image stretch)
@@ -338,6 +349,7 @@ pub record AreSlots (image : MemoryImage) (first : ℕ) (slots : List Slot) : Ty
   pub fit : Each slots (IsFit (length slots))
   pub stand : Each slots (StandsFor image (record { first = first; count = length slots }))
   pub access : Each slots (AccessesFor image (record { first = first; count = length slots }))
+  pub found : Each slots (IsFound image (record { first = first; count = length slots }))
   pub counted : Each slots (IsCounted slots)
 
 -- The slot that comes next does nothing: its instruction is left to the core.

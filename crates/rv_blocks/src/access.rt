@@ -1,14 +1,22 @@
 //! The accesses of loads and stores.
-ghost use Rattle.std.specs.Prelude.{◌≡◌, ◌+◌, ◌*◌, ◌^◌, ◌<◌, ◌≤◌, ℕ, slice_index, IfSome};
+ghost use Rattle.std.specs.Prelude.{◌≡◌, ◌+◌, ◌-◌, ◌*◌, ◌^◌, ◌<◌, ◌≤◌, ℕ, false, [], ◌∷◌, nat_lt, ◌&&◌, slice_index, IfSome, IsTrue};
 ghost use Rattle.rv_core.specs.CoreState.{CoreState};
 ghost use Rattle.rv_core.specs.Executions.{at, Meets};
+ghost use Rattle.zs_num.specs.declared.request.Request.TheVariants as access;
+ghost use Rattle.rv_core.specs.Accesses.{reply_to};
+ghost use Rattle.rv_core.specs.Effect.{received};
 ghost use Rattle.rv_core.specs.Single.{begun, single_load, single_store};
-ghost use Rattle.rv_blocks.specs.Slots.{address_by, destination_by, is_load, is_signed, is_store, loads_by, met_by, stores_by, width_of, AccessesFor};
+ghost use Rattle.rv_blocks.specs.Flows.{is_access_flow, AccessesBy};
+ghost use Rattle.rv_blocks.specs.Served.{IsServed};
+ghost use Rattle.rv_blocks.specs.Slots.{address_by, destination_by, is_access, is_load, is_signed, is_store, loads_by, met_by, stores_by, width_of, AccessesFor};
 
+use crate::flow::Flow;
+use crate::hits::Left;
 use crate::slot::{Op, Slot};
 use elf_load::Image;
-use rv_core::{Destination, MemoryRange, Single};
+use rv_core::{Destination, MemoryRange, Port, Single, Stint, is_single, low_bytes};
 use rv_decode::Name;
+use zs_num::Cycle;
 
 /// The one access of the slot at a place, if it is a load or a store whose bytes are in memory and
 /// in one line. Memory lies there. The type `T` means nothing: each loop takes one of its own, and
@@ -36,6 +44,154 @@ pub(crate) fn met<T>(
         Op::Store => store::<T>(slot, width, x, memory),
         _ => None,
     }
+}
+
+/// The hits of loads, and those of stores: what is compiled for each is compiled for one call.
+struct Loads;
+
+struct Stores;
+
+/// Makes the access of a slot at which the loop stopped, if it is a load or a store, where it ends in
+/// time and the port serves it at once, and says whether it did. If not, nothing changes. `left` is
+/// what is left of the stint before the instruction, which takes a cycle of its own.
+#[inline(always)]
+pub(crate) fn hit<Q: Port>(
+    flow: Flow,
+    slot: &Slot,
+    x: &mut [u64; 32],
+    memory: &MemoryRange,
+    stint: &Stint,
+    left: &Left,
+    port: &mut Q,
+) -> bool
+    requires access { AccessesBy flow slot.now.op }
+    requires rd { slot.now.rd < 32 }
+    requires rs1 { slot.now.rs1 < 32 }
+    requires rs2 { slot.now.rs2 < 32 }
+    requires reach { memory.now.base + memory.now.size ≤ 2 ^ 48 }
+    requires left { left.now.cycles ≤ stint.now.end }
+    requires base { Q.base port.old ≡ memory.now.base }
+    requires size { Q.size port.old ≡ memory.now.size }
+    requires room { 0 < left.now.accesses → 1 ≤ Q.room port.old }
+    ensures time { IsTrue result → stint.now.hit < left.now.cycles }
+    ensures few { IsTrue result → 0 < left.now.accesses }
+    ensures access { IsTrue result → IsTrue (is_access slot.now.op) }
+    ensures flow { IsTrue result → IsTrue (is_access_flow flow) }
+    ensures served { IsTrue result → IsServed memory.now Q.gives Q.core Q.logged slot.now (stint.now.end - left.now.cycles + 1) x.old port.old x.new port.new }
+    ensures none { result ≡ false → x.new ≡ x.old }
+    ensures same { result ≡ false → port.new ≡ port.old }
+    ensures port_core { Q.core port.new ≡ Q.core port.old }
+    ensures port_base { Q.base port.new ≡ Q.base port.old }
+    ensures port_size { Q.size port.new ≡ Q.size port.old }
+    ensures port_l1i { Q.l1i port.new ≡ Q.l1i port.old }
+    ensures port_room { Q.room port.old ≤ Q.room port.new + 1 }
+{
+    match flow {
+        Flow::Load => {
+            may_hit(stint, left)
+                && load_hit::<Q>(slot, x, memory, stint.end - (left.cycles - 1), port)
+        }
+        Flow::Store => {
+            may_hit(stint, left)
+                && store_hit::<Q>(slot, x, memory, stint.end - (left.cycles - 1), port)
+        }
+        _ => false,
+    }
+}
+
+/// Whether one more access may be made, and ends in time where it is a hit.
+#[inline(always)]
+fn may_hit(stint: &Stint, left: &Left) -> bool
+    ensures { result ≡ (nat_lt stint.now.hit left.now.cycles && nat_lt 0 left.now.accesses) }
+{
+    left.cycles > stint.hit && left.accesses > 0
+}
+
+/// Makes the access of a load, where it is of one line and the port serves it at once, and says
+/// whether it did. If not, nothing changes.
+#[inline(always)]
+fn load_hit<Q: Port>(
+    slot: &Slot,
+    x: &mut [u64; 32],
+    memory: &MemoryRange,
+    start: Cycle,
+    port: &mut Q,
+) -> bool
+    requires is_load { slot.now.op ≡ Op.Load }
+    requires rd { slot.now.rd < 32 }
+    requires rs1 { slot.now.rs1 < 32 }
+    requires reach { memory.now.base + memory.now.size ≤ 2 ^ 48 }
+    requires base { Q.base port.old ≡ memory.now.base }
+    requires size { Q.size port.old ≡ memory.now.size }
+    requires room { 1 ≤ Q.room port.old }
+    ensures served { IsTrue result → IsServed memory.now Q.gives Q.core Q.logged slot.now start x.old port.old x.new port.new }
+    ensures none { result ≡ false → x.new ≡ x.old }
+    ensures same { result ≡ false → port.new ≡ port.old }
+    ensures port_core { Q.core port.new ≡ Q.core port.old }
+    ensures port_base { Q.base port.new ≡ Q.base port.old }
+    ensures port_size { Q.size port.new ≡ Q.size port.old }
+    ensures port_l1i { Q.l1i port.new ≡ Q.l1i port.old }
+    ensures port_room { Q.room port.old ≤ Q.room port.new + 1 }
+{
+    let addr = x[slot.rs1 as usize].wrapping_add(slot.value);
+    let width = width_of::<(Q, Loads)>(slot.name);
+    if !is_single(memory, addr, width) {
+        return false;
+    }
+    match port.load_hit(start, addr, width) {
+        Some(reply) => {
+            if slot.rd != 0 {
+                x[slot.rd as usize] = loaded(slot.name, width, reply);
+            }
+            true
+        }
+        None => false,
+    }
+}
+
+/// The number that a load gives its register, by the reply to its access.
+#[inline(always)]
+fn loaded(name: Name, width: u8, reply: u64) -> u64
+    requires { width ≡ width_of name }
+    ensures { result ≡ received (record { rd = 0; width = width; signed = is_signed name }) (reply_to (access.Load 0 width) reply ∷ []) }
+{
+    let unused = 64 - 8 * u32::from(width);
+    let high = reply << unused;
+    if is_signed(name) {
+        (high.cast_signed() >> unused).cast_unsigned()
+    } else {
+        high >> unused
+    }
+}
+
+/// The same of a store.
+#[inline(always)]
+fn store_hit<Q: Port>(
+    slot: &Slot,
+    x: &[u64; 32],
+    memory: &MemoryRange,
+    start: Cycle,
+    port: &mut Q,
+) -> bool
+    requires is_store { slot.now.op ≡ Op.Store }
+    requires rs1 { slot.now.rs1 < 32 }
+    requires rs2 { slot.now.rs2 < 32 }
+    requires reach { memory.now.base + memory.now.size ≤ 2 ^ 48 }
+    requires base { Q.base port.old ≡ memory.now.base }
+    requires size { Q.size port.old ≡ memory.now.size }
+    requires room { 1 ≤ Q.room port.old }
+    ensures served { IsTrue result → IsServed memory.now Q.gives Q.core Q.logged slot.now start x.now port.old x.now port.new }
+    ensures same { result ≡ false → port.new ≡ port.old }
+    ensures port_core { Q.core port.new ≡ Q.core port.old }
+    ensures port_base { Q.base port.new ≡ Q.base port.old }
+    ensures port_size { Q.size port.new ≡ Q.size port.old }
+    ensures port_l1i { Q.l1i port.new ≡ Q.l1i port.old }
+    ensures port_room { Q.room port.old ≤ Q.room port.new + 1 }
+{
+    let addr = x[slot.rs1 as usize].wrapping_add(slot.value);
+    let width = width_of::<(Q, Stores)>(slot.name);
+    is_single(memory, addr, width)
+        && port.store_hit(start, addr, width, low_bytes(width, x[slot.rs2 as usize]))
 }
 
 /// That of a load of so many bytes.

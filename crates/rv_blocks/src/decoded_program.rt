@@ -1,16 +1,17 @@
 //! A program whose words are decoded once.
-ghost use Rattle.std.specs.Prelude.{◌≡◌, ◌+◌, ◌-◌, ◌*◌, ◌%◌, ◌^◌, ◌≤◌, All, vec_capacity, vec_len, IfOk, IfSome};
+ghost use Rattle.std.specs.Prelude.{◌≡◌, ◌+◌, ◌-◌, ◌*◌, ◌%◌, ◌^◌, ◌≤◌, All, vec_capacity, vec_len, IfOk, IfSome, None};
 ghost use Rattle.rv_core.specs.Fetch.{fetched_at};
 ghost use Rattle.rv_core.specs.Decoded.{HasRegisters};
 ghost use Rattle.rv_blocks.specs.Decoded.{IsDecodedWord};
 
 use crate::answer::{ran_to, run_last};
 use crate::blocks::{ByBlocks, OneByOne, by_blocks, one_by_one};
+use crate::hits::{Gone, by_hits};
 use crate::making::slots_of;
 use crate::perform::place_of;
 use crate::slot::Slot;
 use elf_load::{Image, Segment};
-use rv_core::{Fetched, MemoryRange, Program, Ran};
+use rv_core::{Came, Fetched, MemoryRange, Port, Program, Ran, Stint};
 use rv_decode::Inst;
 use std::alloc::Global;
 use std::marker::Model;
@@ -232,7 +233,7 @@ impl Program for DecodedProgram<'_> {
         let Some(place) = place_of(pc, first, slots.len()) else {
             return Ran::nowhere(pc);
         };
-        let rest = by_blocks(image, slots, first, registers, place, most);
+        let rest = by_blocks::<ByBlocks>(image, slots, first, registers, place, most).rest;
         let ran = ran_to::<ByBlocks>(image, slots, first, registers, rest, most, memory, None);
         if ran.met.is_some() {
             return ran;
@@ -255,5 +256,49 @@ impl Program for DecodedProgram<'_> {
         let line = Some(line);
         let rest = one_by_one(image, slots, first, registers, place, most, line);
         ran_to::<OneByOne>(image, slots, first, registers, rest, most, memory, line)
+    }
+
+    #[inline(always)]
+    fn run_hits<Q: Port>(
+        &self,
+        registers: &mut [u64; 32],
+        pc: u64,
+        line: Option<u64>,
+        memory: &MemoryRange,
+        stint: &Stint,
+        port: &mut Q,
+    ) -> Came {
+        let (image, slots, first) = (self.image, &self.slots, self.first);
+        match place_of(pc, first, slots.len()) {
+            Some(place) => {
+                let gone = by_hits::<Q>(
+                    image, slots, first, registers, place, line, memory, stint, port,
+                );
+                came_by(first, stint, gone)
+            }
+            None => Came::nowhere(pc, line, stint.clock),
+        }
+    }
+}
+
+/// How far the loop over hits came.
+#[inline(always)]
+fn came_by(first: u64, stint: &Stint, gone: Gone) -> Came
+    requires code { first + 4 * gone.place ≤ 2 ^ 48 }
+    requires begins { stint.now.clock ≤ stint.now.end }
+    requires left { gone.left.cycles + gone.left.waited ≤ stint.now.end - stint.now.clock }
+    requires accesses { gone.left.accesses ≤ stint.now.accesses }
+    ensures pc { result.pc ≡ first + 4 * gone.place }
+    ensures line { result.line ≡ gone.line }
+    ensures clock { result.clock ≡ stint.now.end - gone.left.cycles }
+    ensures count { result.count ≡ stint.now.end - stint.now.clock - gone.left.cycles - gone.left.waited }
+    ensures accesses { result.accesses ≡ stint.now.accesses - gone.left.accesses }
+{
+    Came {
+        pc: first + 4 * gone.place as u64,
+        line: gone.line,
+        clock: stint.end - gone.left.cycles,
+        count: stint.end - stint.clock - gone.left.cycles - gone.left.waited,
+        accesses: stint.accesses - gone.left.accesses,
     }
 }

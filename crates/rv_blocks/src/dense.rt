@@ -186,6 +186,7 @@ fn load(inst: &Inst, _first: u64, _place: usize, _count: usize) -> Slot
     requires name { IsTrue (is_load inst.now.name) }
     requires rd { inst.now.rd < 32 }
     requires rs1 { inst.now.rs1 < 32 }
+    requires place { _place + 1 < _count }
     ensures fit { IsFit _count _place result }
     ensures does { DoesAs inst.now (record { first = _first; count = _count }) _place result }
     ensures accesses { AccessesAs inst.now (record { first = _first; count = _count }) _place result }
@@ -207,6 +208,7 @@ fn store(inst: &Inst, _first: u64, _place: usize, _count: usize) -> Slot
     requires name { IsTrue (is_store inst.now.name) }
     requires rs1 { inst.now.rs1 < 32 }
     requires rs2 { inst.now.rs2 < 32 }
+    requires place { _place + 1 < _count }
     ensures fit { IsFit _count _place result }
     ensures does { DoesAs inst.now (record { first = _first; count = _count }) _place result }
     ensures accesses { AccessesAs inst.now (record { first = _first; count = _count }) _place result }

@@ -7,6 +7,10 @@ pub enum Flow {
     On,
     /// At this place, where a block begins.
     To(usize),
+    /// Nowhere: nothing was done, since it is a load.
+    Load,
+    /// Nowhere: nothing was done, since it is a store.
+    Store,
     /// Nowhere: nothing was done.
     Apart,
 }

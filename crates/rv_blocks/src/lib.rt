@@ -1,6 +1,7 @@
 //! A program that is decoded once: its words, and its instructions in a dense form, with a loop over
-//! those that need no memory, up to the access of one that does. That goes by blocks, of whose
-//! instructions only the last may jump, and each block is paid for at its entry.
+//! those that need no memory, up to the access of one that does, and one that goes on over accesses
+//! that are hits. They go by blocks, of whose instructions only the last may jump, and each block is
+//! paid for at its entry.
 #![tactic(auto)]
 
 mod access;
@@ -9,7 +10,9 @@ mod blocks;
 mod decoded_program;
 mod dense;
 mod flow;
+mod hits;
 mod join;
+mod line;
 mod making;
 mod perform;
 mod slot;

@@ -3,7 +3,7 @@ ghost use Rattle.std.specs.Prelude.{◌≡◌, ◌≢◌, ◌+◌, ◌*◌, ◌%
 ghost use Rattle.rv_alu.specs.Computing.{is_arithmetic, is_branch};
 ghost use Rattle.rv_core.specs.Effect.{even, with_register};
 ghost use Rattle.rv_blocks.specs.Slots.{branches, computes, computes_with_value, does, is_plain, links, links_to, name_of, number_in, place_within, sets, IsFit};
-ghost use Rattle.rv_blocks.specs.Flows.{placed_by, Continues};
+ghost use Rattle.rv_blocks.specs.Flows.{is_apart, placed_by, AccessesBy, Continues};
 
 use crate::flow::Flow;
 use crate::slot::{Op, Slot};
@@ -21,11 +21,13 @@ pub fn perform<T>(slot: &Slot, x: &mut [u64; 32], first: u64, place: usize, coun
     requires place { place < count }
     requires memory { first + 4 * count ≤ 2 ^ 48 }
     ensures value { placed_by result place x.new ≡ does (name_of slot.now) (record { first = first; count = count }) slot.now (record { registers = x.old; place = place }) }
-    ensures same { result ≡ Flow.Apart → x.new ≡ x.old }
+    ensures same { IsTrue (is_apart result) → x.new ≡ x.old }
     ensures continues { Continues result (name_of slot.now) count place }
+    ensures access { AccessesBy result slot.now.op }
 {
     match slot.op {
-        Op::Load | Op::Store => Flow::Apart,
+        Op::Load => Flow::Load,
+        Op::Store => Flow::Store,
         Op::Add => compute(Name::Add, slot, x, place),
         Op::Sub => compute(Name::Sub, slot, x, place),
         Op::And => compute(Name::And, slot, x, place),
@@ -52,8 +54,9 @@ fn perform_other<T>(slot: &Slot, x: &mut [u64; 32], first: u64, place: usize, co
     requires place { place < count }
     requires memory { first + 4 * count ≤ 2 ^ 48 }
     ensures value { placed_by result place x.new ≡ does slot.now.name (record { first = first; count = count }) slot.now (record { registers = x.old; place = place }) }
-    ensures same { result ≡ Flow.Apart → x.new ≡ x.old }
+    ensures same { IsTrue (is_apart result) → x.new ≡ x.old }
     ensures continues { Continues result slot.now.name count place }
+    ensures access { AccessesBy result slot.now.op }
 {
     match slot.name {
         Name::Add => compute(Name::Add, slot, x, place),
@@ -163,8 +166,9 @@ fn branch(name: Name, slot: &Slot, x: &[u64; 32], place: usize, _count: usize) -
     requires leads { slot.now.value < _count }
     requires falls { place + 1 < _count }
     ensures value { placed_by result place x.now ≡ branches name slot.now (record { registers = x.now; place = place }) }
-    ensures goes { result ≢ Flow.Apart }
+    ensures goes { is_apart result ≡ false }
     ensures continues { Continues result name _count place }
+    ensures access { AccessesBy result slot.now.op }
 {
     if taken(name, x[slot.rs1 as usize], x[slot.rs2 as usize]) {
         Flow::To(slot.value as usize)
@@ -195,8 +199,9 @@ fn jump_by_register(slot: &Slot, x: &mut [u64; 32], first: u64, place: usize, co
     requires place { place < count }
     requires memory { first + 4 * count ≤ 2 ^ 48 }
     ensures value { placed_by result place x.new ≡ links_to (record { first = first; count = count }) slot.now (even ((number_in (record { registers = x.old; place = place }) slot.now.rs1 + slot.now.value) % 2 ^ 64)) (record { registers = x.old; place = place }) }
-    ensures same { result ≡ Flow.Apart → x.new ≡ x.old }
+    ensures same { IsTrue (is_apart result) → x.new ≡ x.old }
     ensures continues { Continues result Name.Jalr count place }
+    ensures access { AccessesBy result slot.now.op }
 {
     let target = x[slot.rs1 as usize].wrapping_add(slot.value);
     match place_of(target - target % 2, first, count) {

@@ -1,70 +1,77 @@
-use Rattle.std.proofs.Common.{arith, inl, refl, sym, ◌∙◌, ◌+◌, ◌*◌, ◌<◌}
+use Rattle.std.proofs.Common.{◌≡◌, ◌+◌, ◌-◌, ◌*◌, ◌∙◌, ℕ, List, None, arith, subst, sym}
+use Rattle.rv_core.specs.Executions.{LeadsTo}
 use Rattle.rv_blocks.specs.Slots.{left_at}
-use Rattle.rv_blocks.proofs.Steps.{costs, costs_some, costs_more, costs_last, ends_apart, goes_on, goes_to, pays}
+use Rattle.rv_blocks.proofs.Accesses.{apart_ends}
+use Rattle.rv_blocks.proofs.Steps.{costs_last, costs_more, costs_some, ends_apart, leads_further, place_costs}
+use Rattle.rv_blocks.proofs.Stopping.{accesses_at, stops}
 use Rattle.rv_blocks.proofs.blocks.by_blocks.Goals as goal
 
-pub returns-then-budget-cost-clause-ends : goal.returns-then-budget-cost-clause-ends
-returns-then-budget-cost-clause-ends c =
-    let cost = costs c.args._image.now c.args.first c.args.slots.now c.requires.slots c.args.place c.slot_at.result.now c.slot_at.ensures in
-    let short : c.args.budget < left_at c.args.slots.now c.args.place = omega (arith, cost, c.from-cost.ensures, c.if-budget-cost.true) in
-    inl short
-
 pub perform-requires-clause-fit : goal.perform-requires-clause-fit
-perform-requires-clause-fit c = c.requires.slots.fit c.next.ip c.slot_at-slot.result.now c.slot_at-slot.ensures
+perform-requires-clause-fit g c = c.requires.slots.fit c.next.ip c.slot_at-slot.result.now c.slot_at-slot.ensures
 
 pub next-preserved-in-On : goal.next-preserved-in-On
-next-preserved-in-On c =
+next-preserved-in-On g c =
     let was = c.next.invariant in
     let slots = c.args.slots.now in
-    let more = costs_more c.args._image.now c.args.first slots c.requires.slots c.next.ip c.slot_at-slot.result.now c.slot_at-slot.ensures c.in-On.ensures.continues.0 in
+    let slot = c.slot_at-slot.result.now in
+    let more = costs_more c.args._image.now c.args.first slots c.requires.slots c.next.ip slot c.slot_at-slot.ensures c.in-On.ensures.continues.0 in
     record {
       within = c.in-On.ensures.continues.1;
       paid = omega (arith, more, was.paid);
-      ran = goes_on c.args._image.now c.args.first slots c.requires.slots c.next.ip c.slot_at-slot.result.now c.slot_at-slot.ensures
-          c.args.budget c.next.left c.args.x.now c.next.x c.perform.new.x (c.args.first + 4 * c.args.place) was.paid was.ran c.in-On.ensures.value c.in-On.ensures.continues.0;
+      ran = leads_further c.args._image.now c.args.first slots c.requires.slots c.next.ip slot c.slot_at-slot.ensures None c.args.budget (c.next.left + left_at slots c.next.ip) (c.next.left + left_at slots (c.next.ip + 1))
+          c.args.x.now c.next.x c.perform.new.x (c.args.first + 4 * c.args.place) (c.next.ip + 1) (omega (arith, more)) was.paid was.ran tt c.in-On.ensures.value;
     }
 
-pub returns-then-left-cost-clause-ran : goal.returns-then-left-cost-clause-ran
-returns-then-left-cost-clause-ran c =
+pub returns-then-left-cost-2-clause-ran : goal.returns-then-left-cost-2-clause-ran
+returns-then-left-cost-2-clause-ran g c =
     let was = c.next.invariant in
-    goes_to c.args._image.now c.args.first c.args.slots.now c.requires.slots c.next.ip c.slot_at-slot.result.now c.slot_at-slot.ensures
-    c.args.budget c.next.left c.args.x.now c.next.x c.perform.new.x (c.args.first + 4 * c.args.place) c.in-To.next was.paid was.ran c.in-To.ensures.value c.in-To.ensures.continues.0
-
-pub returns-then-left-cost-clause-ends : goal.returns-then-left-cost-clause-ends
-returns-then-left-cost-clause-ends c =
-    let cost = costs c.args._image.now c.args.first c.args.slots.now c.requires.slots c.in-To.next c.slot_at-in-To.result.now c.slot_at-in-To.ensures in
-    let short : c.next.left < left_at c.args.slots.now c.in-To.next = omega (arith, cost, c.from-cost-in-To.ensures, c.if-left-cost.true) in
-    inl short
+    let slots = c.args.slots.now in
+    let slot = c.slot_at-slot.result.now in
+    let last = costs_last c.args._image.now c.args.first slots c.requires.slots c.next.ip slot c.slot_at-slot.ensures c.in-To.ensures.continues.0 in
+    let out = c.out_of_budget-then-left-cost-2 in
+    rw (out.ensures.left, out.ensures.place)
+    (leads_further c.args._image.now c.args.first slots c.requires.slots c.next.ip slot c.slot_at-slot.ensures None c.args.budget (c.next.left + left_at slots c.next.ip) c.next.left c.args.x.now c.next.x c.perform.new.x (c.args.first + 4 * c.args.place) c.in-To.next (omega (arith, last)) was.paid was.ran tt c.in-To.ensures.value)
 
 pub next-smaller : goal.next-smaller
-next-smaller c =
+next-smaller g c =
     let slots = c.args.slots.now in
-    let cost = costs c.args._image.now c.args.first slots c.requires.slots c.in-To.next c.slot_at-in-To.result.now c.slot_at-in-To.ensures in
-    let some = costs_some c.args._image.now c.args.first slots c.requires.slots c.in-To.next c.slot_at-in-To.result.now c.slot_at-in-To.ensures in
-    omega (arith, cost, some, c.from-cost-in-To.ensures, c.if-left-cost.false, c.next.invariant.within, c.requires.slots.memory)
-
-pub next-smaller-in-On : goal.next-smaller-in-On
-next-smaller-in-On c = omega (arith, c.next.invariant.within, c.requires.slots.memory)
+    let some = place_costs c.args._image.now c.args.first slots c.requires.slots c.in-To.next c.slot_at-slot.result.now c.in-To.ensures.continues.1 in
+    omega (arith, some, c.cost_at-cost-in-To.ensures, c.if-left-cost-2.false, c.next.invariant.within, c.requires.slots.memory)
 
 pub next-preserved : goal.next-preserved
-next-preserved c =
+next-preserved g c =
     let was = c.next.invariant in
     let slots = c.args.slots.now in
-    let last = costs_last c.args._image.now c.args.first slots c.requires.slots c.next.ip c.slot_at-slot.result.now c.slot_at-slot.ensures c.in-To.ensures.continues.0 in
-    let cost = costs c.args._image.now c.args.first slots c.requires.slots c.in-To.next c.slot_at-in-To.result.now c.slot_at-in-To.ensures ∙ sym c.from-cost-in-To.ensures in
+    let slot = c.slot_at-slot.result.now in
+    let last = costs_last c.args._image.now c.args.first slots c.requires.slots c.next.ip slot c.slot_at-slot.ensures c.in-To.ensures.continues.0 in
+    let again : c.next.left - c.cost_at-cost-in-To.result + left_at slots c.in-To.next ≡ c.next.left = omega (arith, c.cost_at-cost-in-To.ensures, c.if-left-cost-2.false) in
     record {
       within = c.in-To.ensures.continues.1;
-      paid = omega (arith, cost, last, was.paid, c.if-left-cost.false);
-      ran = pays c.args._image.now c.args.budget c.next.left c.from-cost-in-To.result slots c.args.x.now c.perform.new.x (c.args.first + 4 * c.args.place) (c.args.first + 4 * c.in-To.next) c.in-To.next
-          cost c.if-left-cost.false
-          (goes_to c.args._image.now c.args.first slots c.requires.slots c.next.ip c.slot_at-slot.result.now c.slot_at-slot.ensures
-          c.args.budget c.next.left c.args.x.now c.next.x c.perform.new.x (c.args.first + 4 * c.args.place) c.in-To.next was.paid was.ran c.in-To.ensures.value c.in-To.ensures.continues.0);
+      paid = omega (arith, again, was.paid);
+      ran = leads_further c.args._image.now c.args.first slots c.requires.slots c.next.ip slot c.slot_at-slot.ensures None c.args.budget (c.next.left + left_at slots c.next.ip) (c.next.left - c.cost_at-cost-in-To.result + left_at slots c.in-To.next) c.args.x.now c.next.x c.perform.new.x (c.args.first + 4 * c.args.place) c.in-To.next
+          (omega (arith, last, again)) was.paid was.ran tt c.in-To.ensures.value;
     }
 
-pub returns-in-Apart-clause-ends : goal.returns-in-Apart-clause-ends
-returns-in-Apart-clause-ends c =
+pub overflow_add-rest : goal.overflow_add-rest
+overflow_add-rest g c =
+    let some = costs_some c.args._image.now c.args.first c.args.slots.now c.requires.slots c.next.ip c.slot_at-slot.result.now c.slot_at-slot.ensures in
+    omega (arith, some, c.next.invariant.paid, c.ranges.budget.fits)
+
+pub returns-in_default : goal.returns-in_default
+returns-in_default g c =
+    let was = c.next.invariant in
     let slots = c.args.slots.now in
-    let cost = costs c.args._image.now c.args.first slots c.requires.slots c.next.ip c.slot_at-slot.result.now c.slot_at-slot.ensures in
-    let some = costs_some c.args._image.now c.args.first slots c.requires.slots c.next.ip c.slot_at-slot.result.now c.slot_at-slot.ensures in
-    ends_apart c.args._image.now c.args.first slots c.requires.slots c.next.ip c.slot_at-slot.result.now c.slot_at-slot.ensures
-    c.next.x c.perform.new.x (left_at slots c.next.ip) _ (c.in-Apart.ensures.same refl) c.in-Apart.ensures.value (omega (arith, cost, some, c.from-rest.ensures))
+    let slot = c.slot_at-slot.result.now in
+    let stop = stops c.perform.result c.next.ip c.perform.new.x c.in_default.not-On c.in_default.not-To in
+    let none = sym stop.0 ∙ c.perform.ensures.value in
+    let last = costs_last c.args._image.now c.args.first slots c.requires.slots c.next.ip slot c.slot_at-slot.ensures (apart_ends _ _ _ _ (sym none)) in
+    let same = c.perform.ensures.same stop.1 in
+    let left : c.next.left + left_at slots c.next.ip ≡ c.next.left + 1 = omega (arith, last) in
+    record {
+      place = was.within;
+      left = omega (arith, left, was.paid);
+      ran = subst (λ (r : List ℕ). LeadsTo None (c.args.budget - (c.next.left + 1)) c.args._image.now c.args.x.now (c.args.first + 4 * c.args.place) r (c.args.first + 4 * c.next.ip)) (sym same) (rw left at was.ran);
+      ends = ends_apart c.args._image.now c.args.first slots c.requires.slots c.next.ip slot c.slot_at-slot.ensures c.next.x c.perform.new.x (left_at slots c.next.ip) (c.next.left + 1) same none (omega arith);
+      access = accesses_at slots c.next.ip slot c.perform.result c.slot_at-slot.ensures c.perform.ensures.access;
+      stops = stop.1;
+    }

@@ -18,6 +18,7 @@ returns-in-Some-clause-fit c = record {
   writes = λ holds. absurd (true≢false (sym holds ∙ ap is_setting c.op_of.ensures.name ∙ branch_ends c.args.inst.now.name c.requires.name));
   leads = λ holds. c.in-Some.ensures.within;
   falls = λ holds. c.requires.place;
+  accessed = λ holds. c.requires.place;
 }
 
 pub returns-in-Some-clause-does : goal.returns-in-Some-clause-does

@@ -10,5 +10,6 @@ returns c =
       fit = λ place slot here. (was.meant place slot here).0;
       stand = λ place slot here. (was.meant place slot here).1;
       access = λ place slot here. (was.meant place slot here).2;
+      found = λ place slot here. (was.meant place slot here).3;
       counted = λ place slot here. was.counted place slot (omega (arith, c.loop-behind-test.false)) here;
     }
