@@ -89,11 +89,11 @@ waiting_unfetched core sound waits = waiting_by core core.is_fetched refl sound 
 
 -- ---- of an interval
 
-most_before : (end : ℕ) (c : TimedCore) → c.clock < end → most_accesses end c ≡ end - c.clock + 256
+pub most_before : (end : ℕ) (c : TimedCore) → c.clock < end → most_accesses end c ≡ end - c.clock + 256
 unfolding most_accesses
 most_before end c early = let before : nat_lt c.clock end ≡ true = search rules in rw before refl
 
-most_past : (end : ℕ) (c : TimedCore) → end ≤ c.clock → most_accesses end c ≡ most_left c.core
+pub most_past : (end : ℕ) (c : TimedCore) → end ≤ c.clock → most_accesses end c ≡ most_left c.core
 unfolding most_accesses
 most_past end c late = let past : nat_lt c.clock end ≡ false = search rules in rw past refl
 

@@ -107,7 +107,7 @@ plain_execution image c none = rw none refl
 -- ---- an instruction, or its fetch
 
 -- the core that asks for its next instruction
-abbrev asking : TimedCore → TimedCore
+abbrev pub asking : TimedCore → TimedCore
 asking c = record c { core = asks_for_instruction c.core }
 
 either : (asks : Bool) (one other : TimedCore) → (cond asks one other ≡ one) ⊎ (cond asks one other ≡ other)
@@ -139,10 +139,10 @@ or_true true = refl
 or_true false = refl
 
 -- nor does one that waits for a reply
-held_stops : (end : ℕ) (c : TimedCore) → is_free c.core ≡ false → goes_on_alone end c ≡ false
+pub held_stops : (end : ℕ) (c : TimedCore) → is_free c.core ≡ false → goes_on_alone end c ≡ false
 held_stops end c held = rw held refl
 
-asking_held : (core : CoreState) → is_free (asks_for_instruction core) ≡ false
+pub asking_held : (core : CoreState) → is_free (asks_for_instruction core) ≡ false
 asking_held core = and_false (is_none core.halted)
 
 -- a core at the end or past it does not go on, unless it has fetched an instruction

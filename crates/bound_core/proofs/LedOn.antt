@@ -25,7 +25,7 @@ none_of None e = refl
 none_of (Some why) e = cc
 
 -- an instruction of a core that has not halted, and does not halt it, is counted
-counted : (core : CoreState) → is_free core ≡ true → cost core.halted ≡ 1
+pub counted : (core : CoreState) → is_free core ≡ true → cost core.halted ≡ 1
 counted core free = ap cost (none_of core.halted (and_parts (is_none core.halted) (is_none core.instruction) free).0)
 
 unfetched_same : (core : CoreState) → core.is_fetched ≡ false → unfetched core ≡ core
@@ -36,7 +36,7 @@ unfolding after_instruction
 executes image c there = rw there refl
 
 -- an instruction that is there, and does not halt the core, is one more that is counted
-one_on : (image : MemoryImage) (c : TimedCore) (next : CoreState) (n : ℕ) → c.pace ≡ None → needs_fetch image c.core ≡ false → c.core.is_fetched ≡ false
+pub one_on : (image : MemoryImage) (c : TimedCore) (next : CoreState) (n : ℕ) → c.pace ≡ None → needs_fetch image c.core ≡ false → c.core.is_fetched ≡ false
     → executed image c.core ≡ next → cost next.halted ≡ 1 → after_instruction image (ahead n c) ≡ ahead (suc n) (record c { core = next })
 one_on image c next n none there fetched leads costs =
     let now : TimedCore = ahead n c in
@@ -54,7 +54,7 @@ abbrev pub IsThere : MemoryImage → CoreState → Option ℕ → Type 0
 IsThere image core line = (registers : List ℕ) (pc : ℕ) → LiesIn line pc → needs_fetch image (at core registers pc) ≡ false
 
 module _ (image : MemoryImage) (end : ℕ) (line : Option ℕ) (c : TimedCore) (none : c.pace ≡ None) (there : IsThere image c.core line) (free : is_free c.core ≡ true) (fetched : c.core.is_fetched ≡ false) where
-  led_on : (n : ℕ) (after : List ℕ) (pc_after : ℕ) → c.clock + n ≤ end → LeadsTo line n image c.core.registers c.core.pc after pc_after
+  pub led_on : (n : ℕ) (after : List ℕ) (pc_after : ℕ) → c.clock + n ≤ end → LeadsTo line n image c.core.registers c.core.pc after pc_after
       → ran_to image end (ahead n (timed_at c after pc_after)) ≡ ran_to image end c
   led_on zero after pc_after room led =
       let At : ℕ → ℕ → List ℕ → ℕ → TimedCore = λ k i registers pc. record c { core = at c.core registers pc; clock = k; instructions = i } in
@@ -70,7 +70,7 @@ module _ (image : MemoryImage) (end : ℕ) (line : Option ℕ) (c : TimedCore) (
       ∙ same_end image end now (goes_on_by end now free early)
       ∙ led_on n between pc_between (omega (arith, room)) led
 
-none_ahead : (c : TimedCore) → ahead 0 c ≡ c
+pub none_ahead : (c : TimedCore) → ahead 0 c ≡ c
 none_ahead c =
     let At : ℕ → ℕ → TimedCore = λ k i. record c { clock = k; instructions = i } in
     let clock : c.clock + 0 ≡ c.clock = omega arith in

@@ -6,6 +6,7 @@ pub mod CoreKept
 pub mod FetchedInstructions
 pub mod FetchedNext
 pub mod Histories
+mod HitTurns
 pub mod HistoryTurn
 pub mod InstructionLaws
 pub mod Instructions
@@ -33,6 +34,7 @@ pub mod ShardKept
 pub mod ShardPorts
 pub mod ShardsStay
 pub mod ShardsTurn
+pub mod TheseTurns
 pub mod Correspondence
 pub mod Turns
 pub mod WholeInstructions

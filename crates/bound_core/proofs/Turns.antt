@@ -1,16 +1,18 @@
 -- The turns of a core, one after the other.
-use Rattle.std.proofs.Common.{◌≡◌, ℕ, ◌+◌, ◌^◌, ◌<◌, ◌≤◌, List, [], ◌∷◌, ◌++◌, length, All, Option, Some, None, inl, inr, Bool, true, false, is_some, true≢false, refl, sym, ◌∙◌, ap, subst, arith}
+use Rattle.std.proofs.Common.{◌≡◌, ℕ, ◌+◌, ◌^◌, ◌<◌, ◌≤◌, List, [], ◌∷◌, ◌++◌, length, Option, Some, None, inl, inr, Bool, true, false, is_some, true≢false, refl, sym, ◌∙◌, ap, subst, arith}
 use Rattle.std.proofs.lemmas.List.{append-nil, append_assoc, length-append}
+use Rattle.std.proofs.lemmas.List.Elements.{All-append}
 use Rattle.zs_num.specs.declared.entry.Entry.{Entry}
 use Rattle.zs_num.specs.declared.request.Request.{Request}
 use Rattle.elf_load.specs.MemoryImage.{MemoryImage}
 use Rattle.rv_core.specs.CoreState.{InProgress}
 use Rattle.rv_core.specs.Sound.{IsSoundCore}
 use Rattle.rv_core.specs.Step.{answered}
-use Rattle.bound_core.specs.Port.{Gains}
+use Rattle.rv_core.specs.Port.{Gains}
 use Rattle.bound_core.specs.TimedCore.{TimedCore, asks, core_after_access, next_request, ran_to}
 use Rattle.bound_core.specs.Pacing.{IsSoon}
 use Rattle.bound_core.specs.IntervalBounds.{latest_clock, left_of_instruction, most_accesses, most_left}
+use Rattle.bound_core.specs.Taken.{HasTaken}
 use Rattle.bound_core.specs.Turn.{EndsInterval, IsOver, RunsToEnd, TakesTurn, TurnsToEnd}
 use Rattle.bound_core.proofs.Accesses.{RunsLocally, TakesAccess, left_answered, left_few, runs_locally, start_within, unfetched_left, waiting_unfetched}
 use Rattle.bound_core.proofs.Instructions.{local_instructions_end}
@@ -111,16 +113,7 @@ module _ {Port : Type 0} (time : Entry → ℕ) (image : MemoryImage) (end : ℕ
     left = left ∙ ap (core_after_access time e) is;
   }
 
-  -- the turns so far: with those that follow they are the turns of the whole interval
-  pub record HasTaken (logged : Port → Option (List Entry)) (number : ℕ) (first port : Port) (before core : TimedCore) : Type 0 where
-    pub entries : List Entry
-    pub path : (rest : List Entry) (last : Port) (after : TimedCore) → TurnsToEnd time image end gives rest port last core after → TurnsToEnd time image end gives (entries ++ rest) first last before after
-    pub cores : All (λ e. e.core ≡ number) entries
-    pub starts : All (λ e. e.start ≤ latest_clock end before) entries
-    pub few : length entries + most_accesses end core ≤ most_accesses end before
-    pub logged_is : Gains (logged first) entries (logged port)
-
-  pub none_taken : (logged : Port → Option (List Entry)) (number : ℕ) (port : Port) (core : TimedCore) → HasTaken logged number port port core core
+  pub none_taken : (logged : Port → Option (List Entry)) (number : ℕ) (port : Port) (core : TimedCore) → HasTaken time image end gives logged number port port core core
   none_taken logged number port core = record {
     entries = [];
     path = λ rest last after turns. turns;
@@ -130,9 +123,9 @@ module _ {Port : Type 0} (time : Entry → ℕ) (image : MemoryImage) (end : ℕ
     logged_is = gains_nothing (logged port);
   }
 
-  pub one_more : (logged : Port → Option (List Entry)) (number : ℕ) (first port next : Port) (before core later : TimedCore) (e : Entry) → HasTaken logged number first port before core
+  pub one_more : (logged : Port → Option (List Entry)) (number : ℕ) (first port next : Port) (before core later : TimedCore) (e : Entry) → HasTaken time image end gives logged number first port before core
       → TakesTurn time image end gives port next core later e → e.core ≡ number → e.start ≤ latest_clock end before → most_accesses end later < most_accesses end core → Gains (logged port) (e ∷ []) (logged next)
-      → HasTaken logged number first next before later
+      → HasTaken time image end gives logged number first next before later
   one_more logged number first port next before core later e h turn own start fewer gains = record {
     entries = h.entries ++ e ∷ [];
     path = λ rest last after turns.
@@ -143,7 +136,7 @@ module _ {Port : Type 0} (time : Entry → ℕ) (image : MemoryImage) (end : ℕ
     logged_is = gains_more (logged first) (logged port) (logged next) h.entries (e ∷ []) h.logged_is gains;
   }
 
-  pub all_taken : (logged : Port → Option (List Entry)) (number : ℕ) (first port last : Port) (before core after : TimedCore) → HasTaken logged number first port before core
+  pub all_taken : (logged : Port → Option (List Entry)) (number : ℕ) (first port last : Port) (before core after : TimedCore) → HasTaken time image end gives logged number first port before core
       → EndsInterval image end port last core after → RunsToEnd time image end gives logged number first last before after
   all_taken logged number first port last before core after h ends = record {
     entries = h.entries;
@@ -152,4 +145,29 @@ module _ {Port : Type 0} (time : Entry → ℕ) (image : MemoryImage) (end : ℕ
     starts = h.starts;
     few = omega (arith, h.few);
     logged = subst (λ port. Gains (logged first) h.entries (logged port)) (sym ends.same) h.logged_is;
+  }
+
+  -- turns that follow those so far
+  pub taken_both : (logged : Port → Option (List Entry)) (number : ℕ) (first port next : Port) (before core later : TimedCore) → HasTaken time image end gives logged number first port before core
+      → latest_clock end core ≤ latest_clock end before → HasTaken time image end gives logged number port next core later → HasTaken time image end gives logged number first next before later
+  taken_both logged number first port next before core later h latest more = record {
+    entries = h.entries ++ more.entries;
+    path = λ rest last after turns.
+        subst (λ all. TurnsToEnd time image end gives all first last before after) (sym (append_assoc h.entries more.entries rest)) (h.path (more.entries ++ rest) last after (more.path rest last after turns));
+    cores = All-append (λ e. e.core ≡ number) h.entries more.entries h.cores more.cores;
+    starts = All-append (λ e. e.start ≤ latest_clock end before) h.entries more.entries h.starts (λ k d below. let start = more.starts k d below in omega (arith, start, latest));
+    few = let longer : length (h.entries ++ more.entries) ≡ length h.entries + length more.entries = length-append h.entries more.entries in omega (arith, longer, h.few, more.few);
+    logged_is = gains_more (logged first) (logged port) (logged next) h.entries more.entries h.logged_is more.logged_is;
+  }
+
+  -- and those up to the end of the interval
+  pub taken_to_end : (logged : Port → Option (List Entry)) (number : ℕ) (first port last : Port) (before core after : TimedCore) → HasTaken time image end gives logged number first port before core
+      → latest_clock end core ≤ latest_clock end before → RunsToEnd time image end gives logged number port last core after → RunsToEnd time image end gives logged number first last before after
+  taken_to_end logged number first port last before core after h latest more = record {
+    entries = h.entries ++ more.entries;
+    turns = h.path more.entries last after more.turns;
+    cores = All-append (λ e. e.core ≡ number) h.entries more.entries h.cores more.cores;
+    starts = All-append (λ e. e.start ≤ latest_clock end before) h.entries more.entries h.starts (λ k d below. let start = more.starts k d below in omega (arith, start, latest));
+    few = let longer : length (h.entries ++ more.entries) ≡ length h.entries + length more.entries = length-append h.entries more.entries in omega (arith, longer, h.few, more.few);
+    logged = gains_more (logged first) (logged port) (logged last) h.entries more.entries h.logged_is more.logged;
   }

@@ -12,7 +12,6 @@ pub mod MachineWorld
 pub mod NumberedCores
 pub mod Pacing
 pub mod PairedPhases
-pub mod Port
 pub mod Reaching
 pub mod ReferenceMachine
 pub mod SamePath
@@ -20,5 +19,6 @@ pub mod ShardPort
 pub mod ShardWorld
 pub mod Steps
 pub mod Correspondence
+pub mod Taken
 pub mod TimedCore
 pub mod Turn

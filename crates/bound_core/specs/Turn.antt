@@ -5,7 +5,7 @@ use Rattle.zs_num.specs.declared.request.Request.{Request}
 use Rattle.elf_load.specs.MemoryImage.{MemoryImage}
 use Rattle.bound_core.specs.declared.turned.Turned.{Turned}
 use Rattle.bound_core.specs.declared.turned.Turned.TheVariants.{Took, Ended}
-use Rattle.bound_core.specs.Port.{Gains}
+use Rattle.rv_core.specs.Port.{Gains}
 use Rattle.bound_core.specs.TimedCore.{TimedCore, asks, core_after_access, ran_to}
 use Rattle.bound_core.specs.IntervalBounds.{latest_clock, most_accesses}
 

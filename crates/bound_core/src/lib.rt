@@ -6,12 +6,11 @@ pub mod laws;
 mod loops;
 mod paced;
 mod parts_port;
-mod port;
 mod shard_port;
 mod turned;
 
 pub use bounded::{BESIDE_CYCLES, BoundCore};
 pub use parts_port::PartsPort;
-pub use port::Port;
+pub use rv_core::Port;
 pub use shard_port::ShardPort;
 pub use turned::Turned;

@@ -1,9 +1,11 @@
 //! The accesses of cores to all shards of a machine, by one worker.
-ghost use Rattle.std.specs.Prelude.{◌≡◌, ◌<◌, ◌≤◌, ◌-◌, ◌^◌, length, map, replicate, IfOk, IfErr, OnErr};
+ghost use Rattle.std.specs.Prelude.{◌≡◌, ◌<◌, ◌≤◌, ◌+◌, ◌-◌, ◌^◌, length, map, replicate, IfNone, IfOk, IfErr, IfSome, OnErr};
+ghost use Rattle.zs_num.specs.Servable.{IsServable};
+ghost use Rattle.zs_num.specs.declared.entry.Outcome.TheVariants.{Hit};
 ghost use Rattle.bound_core.specs.ShardPort.{base_in, base_of, l1i_of, room_of, size_in, size_of, AreShardsOf};
 ghost use Rattle.bound_core.specs.ShardWorld.{begun_world, restarted, shards_serve};
 
-use crate::Port;
+use rv_core::Port;
 use shard::Parts;
 use std::alloc::{AllocError, Global};
 use std::marker::Model;
@@ -68,6 +70,34 @@ impl PartsPort {
         ensures { self.new ≡ record self.old { core = core } }
     {
         self.core = core;
+    }
+
+    /// Serves an access that starts then, where the core's own L1 can serve it alone: a hit. None:
+    /// nothing changes. What is compiled for `T`, any type, is compiled for the callers that name
+    /// it.
+    #[inline(always)]
+    pub fn access_alone<T>(&mut self, start: Cycle, request: Request) -> Option<Entry>
+        requires room { 1 ≤ room_of self.old.world }
+        requires servable { IsServable (base_of self.old.world) (size_of self.old.world) (l1i_of self.old.world) request }
+        ensures gives { IfSome result (λ entry. (entry, self.new.world) ≡ shards_serve self.old.world self.old.core start request) }
+        ensures core { IfSome result (λ entry. entry.core ≡ self.old.core) }
+        ensures start { IfSome result (λ entry. entry.start ≡ start) }
+        ensures request { IfSome result (λ entry. entry.request ≡ request) }
+        ensures hit { IfSome result (λ entry. entry.outcome ≡ Hit) }
+        ensures none { IfNone result (self.new ≡ self.old) }
+        ensures same_core { self.new.core ≡ self.old.core }
+        ensures same_base { base_of self.new.world ≡ base_of self.old.world }
+        ensures same_size { size_of self.new.world ≡ size_of self.old.world }
+        ensures same_l1i { l1i_of self.new.world ≡ l1i_of self.old.world }
+        ensures room { room_of self.old.world ≤ room_of self.new.world + 1 }
+    {
+        let core = usize::from(self.core);
+        let last = self.stamps[core];
+        let entry = self
+            .parts
+            .serve_alone::<T>(self.core, start, last, request)?;
+        self.stamps[core] = entry.stamp;
+        Some(entry)
     }
 
     /// Gives the parts back.

@@ -3,8 +3,8 @@ ghost use Rattle.std.specs.Prelude.{◌≡◌, ◌<◌, ◌≤◌, ◌-◌, ◌^
 ghost use Rattle.bound_core.specs.ShardPort.{base_in, base_of, l1i_of, room_of, size_in, size_of, AreShardsOf};
 ghost use Rattle.bound_core.specs.ShardWorld.{begun_world, restarted, shards_serve};
 
-use crate::Port;
 use division::remainder;
+use rv_core::Port;
 use shard::Shard;
 use std::alloc::{AllocError, Global};
 use std::marker::Model;

@@ -1,7 +1,9 @@
 use Rattle.std.proofs.Common.{◌≤◌, ◌+◌, ◌-◌, ◌^◌, ◌∙◌, IsTrue, refl, sym, subst, arith, rules, max}
 use Rattle.bound_core.specs.IntervalBounds.{latest_clock, most_accesses}
+use Rattle.bound_core.specs.Taken.{HasTaken}
+use Rattle.bound_core.specs.Turn.{RunsToEnd}
 use Rattle.bound_core.proofs.Accesses.{clock_within, latest_small, left_few, most_few}
-use Rattle.bound_core.proofs.Turns.{all_taken, none_taken, one_more}
+use Rattle.bound_core.proofs.Turns.{none_taken, taken_both, taken_to_end}
 use Rattle.bound_core.proofs.bounded.BoundCore.run_one.Goals as goal
 
 pub loop-init : goal.loop-init
@@ -29,15 +31,15 @@ loop-init g c =
       room_left = omega arith;
     }
 
-pub take_turn-requires-clause-clock : goal.take_turn-requires-clause-clock
-take_turn-requires-clause-clock g c =
+pub take_turns-requires-clause-clock : goal.take_turns-requires-clause-clock
+take_turns-requires-clause-clock g c =
     let end = c.args.end in
     let first = c.args.self.now.timed in
     let small : latest_clock end first ≤ max first.clock end + 2 ^ 30 = latest_small end first (left_few first.core c.keeps_sound.ensures.sound) in
     omega (arith, clock_within end c.loop.self.timed, c.loop.invariant.latest, small, c.requires.clock, c.requires.end)
 
-pub take_turn-requires-clause-l1i : goal.take_turn-requires-clause-l1i
-take_turn-requires-clause-l1i g c fetches =
+pub take_turns-requires-clause-l1i : goal.take_turns-requires-clause-l1i
+take_turns-requires-clause-l1i g c fetches =
     let was = c.loop.invariant in
     subst IsTrue (sym was.port_l1i) (c.requires.l1i (subst IsTrue was.fetching fetches))
 
@@ -47,38 +49,41 @@ loop-preserved g c =
     let first = c.args.self.now.timed in
     let now = c.loop.self.timed in
     let was = c.loop.invariant in
-    let did = c.take_turn.ensures in
-    let one = did.took (search rules) in
-    let start : one.entry.start ≤ latest_clock end first = omega (arith, one.starts, was.latest) in
+    let did = c.take_turns.ensures in
+    let taken = subst (λ n. HasTaken (g.X.Expand.time c.args.expansion.now) (g.P.Program.image c.args.program.now) end g.Q.Port.gives g.Q.Port.logged n c.loop.port c.take_turns.new.port now c.take_turns.new.self.timed) was.number (did.taken (search rules)) in
+    let fewer = did.fewer (search rules) in
+    let room = did.port_room (search rules) in
     record {
-      taken = one_more (g.X.Expand.time c.args.expansion.now) (g.P.Program.image c.args.program.now) end g.Q.Port.gives g.Q.Port.logged c.args.self.now.number c.args.port.now c.loop.port c.take_turn.new.port first now c.take_turn.new.self.timed one.entry
-          was.taken one.turn (one.core ∙ was.number) start one.fewer one.logged;
+      taken = taken_both (g.X.Expand.time c.args.expansion.now) (g.P.Program.image c.args.program.now) end g.Q.Port.gives g.Q.Port.logged c.args.self.now.number c.args.port.now c.loop.port c.take_turns.new.port first now c.take_turns.new.self.timed
+          was.taken was.latest taken;
       core = search rules;
       base = search rules;
       size = search rules;
-      room = omega (arith, was.room, one.fewer, did.port_room);
-      spare = omega (arith, was.spare, one.fewer, did.spare);
+      room = omega (arith, was.room, room);
+      spare = omega (arith, was.spare, fewer, did.spare);
       begun = omega (arith, was.begun, did.begun);
       latest = omega (arith, was.latest, did.latest);
       number = did.number ∙ was.number;
       memory = did.memory ∙ was.memory;
       fetching = did.fetching ∙ was.fetching;
-      spare_left = omega (arith, was.spare_left, one.fewer, did.spare);
+      spare_left = omega (arith, was.spare_left, fewer, did.spare);
       port_core = did.port_core ∙ was.port_core;
       port_base = did.port_base ∙ was.port_base;
       port_size = did.port_size ∙ was.port_size;
       port_l1i = did.port_l1i ∙ was.port_l1i;
-      room_left = omega (arith, was.room_left, one.fewer, did.port_room);
+      room_left = omega (arith, was.room_left, room);
     }
 
 pub returns-clause-turns : goal.returns-clause-turns
 returns-clause-turns g c =
-    all_taken (g.X.Expand.time c.args.expansion.now) (g.P.Program.image c.args.program.now) c.args.end g.Q.Port.gives g.Q.Port.logged c.args.self.now.number c.args.port.now c.loop.port c.take_turn.new.port c.args.self.now.timed c.loop.self.timed c.take_turn.new.self.timed
-    c.loop.invariant.taken (c.take_turn.ensures.ended (search rules))
+    let was = c.loop.invariant in
+    let ended = subst (λ n. RunsToEnd (g.X.Expand.time c.args.expansion.now) (g.P.Program.image c.args.program.now) c.args.end g.Q.Port.gives g.Q.Port.logged n c.loop.port c.take_turns.new.port c.loop.self.timed c.take_turns.new.self.timed) was.number (c.take_turns.ensures.ended (search rules)) in
+    taken_to_end (g.X.Expand.time c.args.expansion.now) (g.P.Program.image c.args.program.now) c.args.end g.Q.Port.gives g.Q.Port.logged c.args.self.now.number c.args.port.now c.loop.port c.take_turns.new.port c.args.self.now.timed c.loop.self.timed c.take_turns.new.self.timed
+    was.taken was.latest ended
 
 pub returns-clause-spare : goal.returns-clause-spare
 returns-clause-spare g c =
-    omega (arith, c.loop.invariant.spare_left, c.take_turn.ensures.same_spare (search rules))
+    omega (arith, c.loop.invariant.spare_left, c.take_turns.ensures.same_spare (search rules))
 
 pub returns-clause-few : goal.returns-clause-few
 returns-clause-few g c =
@@ -90,4 +95,4 @@ returns-clause-within g c =
     let end = c.args.end in
     let first = c.args.self.now.timed in
     let small : latest_clock end first ≤ max first.clock end + 2 ^ 30 = latest_small end first (left_few first.core c.keeps_sound.ensures.sound) in
-    omega (arith, clock_within end c.take_turn.new.self.timed, c.take_turn.ensures.latest, c.loop.invariant.latest, small)
+    omega (arith, clock_within end c.take_turns.new.self.timed, c.take_turns.ensures.latest, c.loop.invariant.latest, small)

@@ -2,11 +2,11 @@ use Rattle.std.proofs.Common.{◌≡◌, ◌≤◌, ◌∙◌, IsTrue, Some, Non
 use Rattle.rv_core.specs.declared.memory_range.MemoryRange.{MemoryRange}
 use Rattle.rv_core.specs.Single.{access_of}
 use Rattle.rv_core.specs.Sound.{IsSoundCore}
-use Rattle.bound_core.specs.TimedCore.{TimedCore, asks}
+use Rattle.bound_core.specs.TimedCore.{asks}
 use Rattle.bound_core.specs.Met.{begun_in_time}
 use Rattle.bound_core.specs.Turn.{IsOver}
 use Rattle.bound_core.specs.IntervalBounds.{latest_clock}
-use Rattle.bound_core.proofs.Accesses.{fewer, left_few, most_few, not_later, ran_not_later}
+use Rattle.bound_core.proofs.Accesses.{fewer, not_later, ran_not_later}
 use Rattle.bound_core.proofs.Meeting.{begun_servable}
 use Rattle.bound_core.proofs.Turns.{over_left, ran_locally, ran_over, starts_within, takes_access, took, MakesAccess}
 use Rattle.bound_core.proofs.bounded.BoundCore.take_turn.Goals as goal

@@ -1,0 +1,409 @@
+-- Turns whose accesses are hits that a port serves at once, with the instructions between them.
+use Rattle.std.proofs.Common.{◌≡◌, inl, inr, ℕ, zero, suc, ◌+◌, ◌<◌, ◌≤◌, if◌then◌else◌, Bool, true, false, not, true≢false, List, [], ◌∷◌, ◌++◌, length, Option, Some, None, refl, sym, ◌∙◌, ap, subst, arith}
+use Rattle.std.specs.Prelude.{is_none, is_some, IsSome}
+use Rattle.std.proofs.lemmas.Bool.{and_parts, cases_lt, eq-eqb}
+use Rattle.std.proofs.lemmas.List.{append-nil, length-append}
+use Rattle.zs_num.specs.Request.{is_fetch, line_at}
+use Rattle.zs_num.specs.declared.entry.Entry.{Entry}
+use Rattle.zs_num.specs.declared.entry.Outcome.TheVariants.{Hit}
+use Rattle.zs_num.specs.declared.request.Request.{Request}
+use Rattle.zs_num.specs.declared.request.Request.TheVariants as request
+use Rattle.elf_load.specs.MemoryImage.{MemoryImage}
+use Rattle.rv_core.specs.declared.memory_range.MemoryRange.{MemoryRange}
+use Rattle.rv_core.specs.declared.single.Single.{Single}
+use Rattle.rv_core.specs.declared.single.Single.TheVariants.{Load, Store}
+use Rattle.rv_core.specs.declared.stint.Stint.{Stint}
+use Rattle.rv_core.specs.Asked.{is_idle}
+use Rattle.rv_core.specs.CoreState.{CoreState, InProgress}
+use Rattle.rv_core.specs.Effect.{ended}
+use Rattle.rv_core.specs.Executions.{LiesIn}
+use Rattle.rv_core.specs.Hits.{line_of, moment_of, GoesOn, HasGoneOn, IsOnItsWay, MakesFetch, MakesHit, Moment, RunsOn}
+use Rattle.rv_core.specs.Single.{access_of, begun}
+use Rattle.rv_core.specs.Step.{answered, executed, is_free, needs_fetch}
+use Rattle.rv_core.proofs.Fetches.{latest-needs, never-needs}
+use Rattle.bound_core.specs.Ahead.{ahead}
+use Rattle.bound_core.specs.IntervalBounds.{latest_clock, most_accesses, most_left}
+use Rattle.bound_core.specs.Met.{begun_in_time}
+use Rattle.bound_core.specs.Taken.{Settles, TakesOne, TakesThese}
+use Rattle.bound_core.specs.TimedCore.{TimedCore, after_instruction, core_after_access, ran_to}
+use Rattle.bound_core.specs.Turn.{TakesTurn}
+use Rattle.bound_core.proofs.Accesses.{end_within, most_before, most_past, unfetched_left}
+use Rattle.bound_core.proofs.FetchedNext.{fetched_is_next, taking}
+use Rattle.bound_core.proofs.Instructions.{asking, asking_held, goes_on_by, held_stops, ran_stays, same_end}
+use Rattle.bound_core.proofs.LedOn.{counted, led_on, none_ahead, one_on, IsThere}
+use Rattle.bound_core.proofs.Meeting.{access_made, begun_stops}
+use Rattle.bound_core.proofs.TheseTurns.{settles_itself, these_more, these_on}
+use Rattle.bound_core.proofs.Turns.{took}
+
+-- ---- where the core stands
+
+-- the core with these registers, at this address, with this line as that of its latest fetch if it fetches, at a clock,
+-- after so many instructions more
+abbrev pub standing : TimedCore → (registers : List ℕ) → (pc : ℕ) → (line : Option ℕ) → (clock count : ℕ) → TimedCore
+standing c registers pc line clock count = record c {
+  core = record c.core { registers = registers; pc = pc; fetched_line = (if c.core.fetching then line else c.core.fetched_line) };
+  clock = clock;
+  instructions = c.instructions + count;
+}
+
+abbrev pub stands : {Port : Type 0} → TimedCore → Moment Port → TimedCore
+stands c m = standing c m.registers m.pc m.line m.clock m.count
+
+-- a line is given of a core that fetches, and of no other
+pub record IsLined (fetching : Bool) (line : Option ℕ) : Type 0 where
+  pub some : fetching ≡ true → IsSome line
+  pub none : fetching ≡ false → line ≡ None
+
+-- its instructions in this line need no fetch
+there_by : (image : MemoryImage) (core : CoreState) (line : Option ℕ) (fetching : Bool) → core.fetching ≡ fetching → IsLined fetching line
+    → IsThere image (record core { fetched_line = (if core.fetching then line else core.fetched_line) }) line
+there_by image core line false e lined registers pc lies =
+    never-needs image (record core { registers = registers; pc = pc; fetched_line = (if core.fetching then line else core.fetched_line) }) e
+there_by image core None true e lined registers pc lies = absurd (true≢false (sym (lined.some refl)))
+there_by image core (Some latest) true e lined registers pc lies =
+    latest-needs image (record core { registers = registers; pc = pc; fetched_line = (if core.fetching then Some latest else core.fetched_line) })
+    (rw e (eq-eqb latest (line_at pc) (sym lies)))
+
+line_kept : (fetching : Bool) (line : Option ℕ) → (if fetching then (if fetching then line else None) else line) ≡ line
+line_kept true line = refl
+line_kept false line = refl
+
+line_same : (fetching fetches : Bool) (line other : Option ℕ) → fetches ≡ fetching → (if fetching then (if fetches then line else None) else other) ≡ (if fetching then line else other)
+line_same true fetches line other e = rw e refl
+line_same false fetches line other e = refl
+
+first_lined : (fetching : Bool) (line : Option ℕ) → (fetching ≡ true → IsSome line) → IsLined fetching (if fetching then line else None)
+first_lined true line fetched = record { some = fetched; none = λ no. absurd (true≢false no) }
+first_lined false line fetched = record { some = λ yes. absurd (true≢false (sym yes)); none = λ no. refl }
+
+-- at the beginning it is the core itself
+pub stands_first : (c : TimedCore) → standing c c.core.registers c.core.pc (line_of c.core) c.clock 0 ≡ c
+stands_first c =
+    let At : Option ℕ → ℕ → TimedCore = λ line instructions. record c { core = record c.core { fetched_line = line }; instructions = instructions } in
+    let none : c.instructions + 0 ≡ c.instructions = omega arith in
+    ap (λ line. At line (c.instructions + 0)) (line_kept c.core.fetching c.core.fetched_line) ∙ ap (λ i. At c.core.fetched_line i) none
+
+-- ---- how many accesses it has left
+
+idle_parts : (core : CoreState) → is_idle core ≡ true → (is_free core ≡ true) × (core.is_fetched ≡ false)
+idle_parts core idle =
+    let parts = and_parts (is_free core) (not core.is_fetched) idle in (parts.0, fetched_not core.is_fetched parts.1)
+  where
+    fetched_not : (fetched : Bool) → not fetched ≡ true → fetched ≡ false
+    fetched_not true e = cc
+    fetched_not false e = refl
+
+none_of : {A : Type 0} (o : Option A) → is_none o ≡ true → o ≡ None
+none_of None e = refl
+none_of (Some x) e = absurd (true≢false (sym e))
+
+waits_not : (core : CoreState) → is_free core ≡ true → core.instruction ≡ None
+waits_not core free = none_of core.instruction (and_parts (is_none core.halted) (is_none core.instruction) free).1
+
+pub idle_left : (core : CoreState) → is_idle core ≡ true → most_left core ≡ 0
+idle_left core idle =
+    let parts = idle_parts core idle in
+    let none = waits_not core parts.0 in
+    unfetched_left core parts.1 ∙ (rw none refl)
+
+few_later : (end : ℕ) (before after : TimedCore) → most_left after.core ≡ 0 → before.clock ≤ after.clock → most_accesses end after ≤ most_accesses end before
+few_later end before after left later =
+    elim (cases_lt after.clock end) [
+      | inl early ↦ omega (arith, most_before end after early, most_before end before (omega (arith, early, later)))
+      | inr late ↦ omega (arith, most_past end after late, left)
+    ]
+
+fewer_later : (end : ℕ) (before after : TimedCore) → most_left after.core ≡ 0 → before.clock < after.clock → before.clock < end → most_accesses end after < most_accesses end before
+fewer_later end before after left later early =
+    elim (cases_lt after.clock end) [
+      | inl still ↦ omega (arith, most_before end after still, most_before end before early)
+      | inr late ↦ omega (arith, most_past end after late, most_before end before early, left)
+    ]
+
+latest_kept : (end : ℕ) (before after : TimedCore) → most_left after.core ≤ 256 → after.clock ≤ end → latest_clock end after ≤ latest_clock end before
+unfolding latest_clock
+latest_kept end before after left in_time = omega (arith, left, in_time)
+
+idle_latest : (end : ℕ) (before after : TimedCore) → most_left after.core ≡ 0 → after.clock ≤ end → latest_clock end after ≤ latest_clock end before
+idle_latest end before after left in_time = latest_kept end before after (omega (arith, left)) in_time
+
+-- ---- an instruction of one access
+
+begins : (image : MemoryImage) (end : ℕ) (c : TimedCore) (single : Single) → c.pace ≡ None → needs_fetch image c.core ≡ false → is_free c.core ≡ true → c.core.is_fetched ≡ false
+    → executed image c.core ≡ begun single c.core → c.clock < end → begun_in_time (Some single) (ahead 1 c) ≡ ran_to image end c
+begins image end c single none there free fetched meets early =
+    let ran : TimedCore = begun_in_time (Some single) (ahead 1 c) in
+    let step : after_instruction image c ≡ ran =
+    ap (after_instruction image) (sym (none_ahead c)) ∙ one_on image c (begun single c.core) 0 none there fetched meets (counted c.core free) in
+    sym (ran_stays image end ran (begun_stops end single (ahead 1 c))) ∙ ap (ran_to image end) (sym step) ∙ same_end image end c (goes_on_by end c free early)
+
+of_no_fetch : (single : Single) → is_fetch (access_of single) ≡ false
+of_no_fetch (Load addr destination) = refl
+of_no_fetch (Store addr width value) = refl
+
+-- ---- a fetch
+
+asks_now : (image : MemoryImage) (c : TimedCore) → needs_fetch image c.core ≡ true → after_instruction image c ≡ asking c
+unfolding after_instruction
+asks_now image c needs = rw needs refl
+
+fetch_begins : (image : MemoryImage) (end : ℕ) (c : TimedCore) → needs_fetch image c.core ≡ true → is_free c.core ≡ true → c.clock < end → asking c ≡ ran_to image end c
+fetch_begins image end c needs free early =
+    sym (ran_stays image end (asking c) (held_stops end (asking c) (asking_held c.core))) ∙ ap (ran_to image end) (sym (asks_now image c needs)) ∙ same_end image end c (goes_on_by end c free early)
+
+-- the core that has fetched its instruction, and executes it next
+abbrev has_fetched_in : (time : ℕ) → TimedCore → TimedCore
+has_fetched_in time c = record c {
+  core = record c.core { instruction = None; fetched_line = Some (line_at c.core.pc); is_fetched = true };
+  clock = c.clock + time;
+}
+
+fetch_made : (time : Entry → ℕ) (e : Entry) (c : TimedCore) → core_after_access time e (asking c) ≡ has_fetched_in (time e) c
+unfolding core_after_access answered ended
+fetch_made time e c = ap (λ console. record (has_fetched_in (time e) c) { console = console }) (append-nil c.console)
+
+-- before the end that is but the next instruction
+fetched_goes_on : (image : MemoryImage) (end time : ℕ) (c : TimedCore) → c.pace ≡ None → is_free c.core ≡ true → c.clock + time < end
+    → ran_to image end (taking (has_fetched_in time c)) ≡ ran_to image end (has_fetched_in time c)
+fetched_goes_on image end time c none free early =
+    let fetched : TimedCore = has_fetched_in time c in
+    let halted : is_none c.core.halted ≡ true = (and_parts (is_none c.core.halted) (is_none c.core.instruction) free).0 in
+    let still : is_free fetched.core ≡ true = rw halted refl in
+    fetched_is_next image end fetched none still early (latest-needs image fetched.core (eq-eqb (line_at c.core.pc) (line_at c.core.pc) refl))
+
+-- ---- all the way
+
+-- where a core came to that has gone on by itself, with so many accesses, from the turns' first port to the last
+pub record HasCome {Port : Type 0} (time : Entry → ℕ) (image : MemoryImage) (end : ℕ) (gives : Port → (start : ℕ) → Request → Entry → Port → Type 0)
+    (logged_of : Port → Option (List Entry)) (number made count : ℕ) (first last : Port) (before after : TimedCore) : Type 0 where
+  pub these : (entries : List Entry) × ((length entries ≡ made) × TakesThese time image end gives logged_of number entries first last before after)
+  pub later : before.clock + count ≤ after.clock
+  pub in_time : after.clock ≤ end
+  pub latest : latest_clock end after ≤ latest_clock end before
+
+-- `c` is the core at the beginning, of this number, which has no pipeline and no instruction in progress
+module _ {Port : Type 0} (time : Entry → ℕ) (image : MemoryImage) (memory : MemoryRange) (stint : Stint)
+    (gives : Port → (start : ℕ) → Request → Entry → Port → Type 0) (core_of : Port → ℕ) (logged_of : Port → Option (List Entry))
+    (number : ℕ) (first : Port) (c : TimedCore) (none : c.pace ≡ None) (idle : is_idle c.core ≡ true) (inside : c.core.memory ≡ memory)
+    (hit_time : (e : Entry) → e.outcome ≡ Hit → is_fetch e.request ≡ false → time e ≡ stint.hit)
+    (fetch_time : (e : Entry) → e.outcome ≡ Hit → is_fetch e.request ≡ true → time e ≡ stint.fetch_hit)
+    (takes_time : (e : Entry) → 1 ≤ time e) where
+  -- the core has come to a moment by so many accesses
+  pub record Comes (accesses : ℕ) (m : Moment Port) : Type 0 where
+    pub these : (entries : List Entry) × ((length entries ≡ accesses) × TakesThese time image stint.end gives logged_of number entries first m.port c (stands c m))
+    pub in_time : m.clock ≤ stint.end
+    pub later : c.clock + m.count ≤ m.clock
+    pub lined : IsLined c.core.fetching m.line
+    pub core : core_of m.port ≡ number
+
+  free : is_free c.core ≡ true
+  free = (idle_parts c.core idle).0
+
+  unfetched : c.core.is_fetched ≡ false
+  unfetched = (idle_parts c.core idle).1
+
+  there : (m : Moment Port) → IsLined c.core.fetching m.line → LiesIn m.line m.pc → needs_fetch image (stands c m).core ≡ false
+  there m lined lies = there_by image c.core m.line c.core.fetching refl lined m.registers m.pc lies
+
+  one_longer : (n : ℕ) (entries : List Entry) (e : Entry) → length entries ≡ n → length (entries ++ e ∷ []) ≡ suc n
+  one_longer n entries e many = let longer : length (entries ++ e ∷ []) ≡ length entries + 1 = length-append entries (e ∷ []) in omega (arith, longer, many)
+
+  comes_on : (n : ℕ) (before after : Moment Port) → RunsOn image memory stint gives core_of logged_of before after → Comes n before → Comes n after
+  comes_on n before after r here =
+      let now : TimedCore = stands c before in
+      let next : TimedCore = stands c after in
+      let At : Option ℕ → ℕ → ℕ → TimedCore = λ line clock instructions. record c {
+        core = record c.core { registers = after.registers; pc = after.pc; fetched_line = (if c.core.fetching then line else c.core.fetched_line) };
+        clock = clock;
+        instructions = instructions;
+      } in
+      let count : c.instructions + after.count ≡ c.instructions + before.count + r.instructions = let e = r.count in omega (arith, e) in
+      let is : next ≡ At before.line (before.clock + r.instructions) (c.instructions + before.count + r.instructions) =
+      ap (λ line. At line after.clock (c.instructions + after.count)) r.line
+      ∙ ap (λ k. At before.line k (c.instructions + after.count)) r.clock
+      ∙ ap (λ i. At before.line (before.clock + r.instructions) i) count in
+      let room : before.clock + r.instructions ≤ stint.end = omega (arith, r.clock, r.in_time) in
+      let same : ran_to image stint.end next ≡ ran_to image stint.end now = ap (ran_to image stint.end) is
+      ∙ led_on image stint.end before.line now none (there_by image c.core before.line c.core.fetching refl here.lined) free unfetched r.instructions after.registers after.pc room r.leads in
+      let settles : Settles time image stint.end gives now next = record {
+        ran = same;
+        begun = omega (arith, r.clock);
+        not_later = idle_latest stint.end now next (idle_left c.core idle) r.in_time;
+        fewer = few_later stint.end now next (idle_left c.core idle) (omega (arith, r.clock));
+        memory = refl;
+        fetching = refl;
+      } in
+      let (entries, (many, these)) = here.these in
+      let on = these_on time image stint.end gives logged_of number entries first before.port c now next these settles in
+      record {
+        these = (entries, (many, subst (λ (port : Port). TakesThese time image stint.end gives logged_of number entries first port c next) (sym r.port) on));
+        in_time = r.in_time;
+        later = omega (arith, here.later, r.clock, r.count);
+        lined = subst (IsLined c.core.fetching) (sym r.line) here.lined;
+        core = ap core_of r.port ∙ here.core;
+      }
+
+  comes_by_hit : (n : ℕ) (before after : Moment Port) → MakesHit image memory stint gives core_of logged_of before after → Comes n before → Comes (suc n) after
+  comes_by_hit n before after h here =
+      let now : TimedCore = stands c before in
+      let next : TimedCore = stands c after in
+      let single : Single = h.access.single in
+      let served = h.access.served in
+      let e : Entry = served.entry in
+      let early : before.clock < stint.end = omega (arith, h.clock, h.in_time) in
+      let ran : TimedCore = begun_in_time (Some single) (ahead 1 now) in
+      let ran_is : ran ≡ ran_to image stint.end now = begins image stint.end now single none (there before here.lined h.lies) free unfetched (h.access.meets now.core inside) early in
+      let request_is : is_fetch e.request ≡ false = ap is_fetch served.asked ∙ of_no_fetch single in
+      let takes : time e ≡ stint.hit = hit_time e served.hit request_is in
+      let answers : answered e.reply (begun single now.core) ≡ record now.core { registers = after.registers; pc = after.pc } =
+      ap (λ reply. answered reply (begun single now.core)) served.replied ∙ h.access.completes now.core idle in
+      let At : CoreState → ℕ → ℕ → TimedCore = λ core clock instructions. record c { core = core; clock = clock; instructions = instructions } in
+      let Lined : Option ℕ → CoreState = λ line. record c.core { registers = after.registers; pc = after.pc; fetched_line = (if c.core.fetching then line else c.core.fetched_line) } in
+      let clock : after.clock ≡ before.clock + 1 + time e = omega (arith, h.clock, takes) in
+      let count : c.instructions + after.count ≡ c.instructions + before.count + 1 = let was = h.count in omega (arith, was) in
+      let left : next ≡ core_after_access time e ran =
+      ap (λ line. At (Lined line) after.clock (c.instructions + after.count)) h.line
+      ∙ ap (λ k. At (Lined before.line) k (c.instructions + after.count)) clock
+      ∙ ap (λ i. At (Lined before.line) (before.clock + 1 + time e) i) count
+      ∙ ap (λ core. At core (before.clock + 1 + time e) (c.instructions + before.count + 1)) (sym answers)
+      ∙ sym (access_made time e single (ahead 1 now)) in
+      let turn : TakesTurn time image stint.end gives before.port after.port now next e =
+      took time image stint.end gives before.port after.port now ran next (access_of single) e ran_is refl served.given left in
+      let one : TakesOne time image stint.end gives logged_of number before.port after.port now next e = record {
+        turn = turn;
+        core = served.core ∙ here.core;
+        starts = omega (arith, served.starts, early, end_within stint.end now);
+        fewer = fewer_later stint.end now next (idle_left c.core idle) (omega (arith, h.clock)) early;
+        not_later = idle_latest stint.end now next (idle_left c.core idle) h.in_time;
+        begun = omega (arith, h.clock);
+        memory = refl;
+        fetching = refl;
+        logged = served.logged;
+      } in
+      let (entries, (many, these)) = here.these in
+      record {
+        these = (entries ++ e ∷ [], (one_longer n entries e many, these_more time image stint.end gives logged_of number entries e first before.port after.port c now next these one));
+        in_time = h.in_time;
+        later = omega (arith, here.later, h.clock, h.count);
+        lined = subst (IsLined c.core.fetching) (sym h.line) here.lined;
+        core = served.same ∙ here.core;
+      }
+
+  fetches_by : (fetching : Bool) (line : Option ℕ) (latest : ℕ) → IsLined fetching line → line ≡ Some latest → fetching ≡ true
+  fetches_by true line latest lined had = refl
+  fetches_by false line latest lined had = let no : line ≡ None = lined.none refl in cc
+
+  comes_by_fetch : (n : ℕ) (before after : Moment Port) → MakesFetch image memory stint gives core_of logged_of before after → Comes n before → Comes (suc n) after
+  comes_by_fetch n before after h here =
+      let now : TimedCore = stands c before in
+      let next : TimedCore = stands c after in
+      let fetching : c.core.fetching ≡ true = fetches_by c.core.fetching before.line h.latest here.lined h.had in
+      let served = h.served.1 in
+      let e : Entry = served.entry in
+      let early : before.clock < stint.end = omega (arith, h.clock, h.in_time) in
+      let line : now.core.fetched_line ≡ before.line = rw fetching refl in
+      let needs : needs_fetch image now.core ≡ true = h.fetches now.core inside fetching line refl in
+      let ran : TimedCore = asking now in
+      let ran_is : ran ≡ ran_to image stint.end now = fetch_begins image stint.end now needs free early in
+      let takes : time e ≡ stint.fetch_hit = fetch_time e served.hit (ap is_fetch served.asked) in
+      let some : 1 ≤ time e = takes_time e in
+      let behind : TimedCore = has_fetched_in (time e) now in
+      let clock : after.clock ≡ before.clock + time e = omega (arith, h.clock, takes) in
+      let turn : TakesTurn time image stint.end gives before.port after.port now behind e =
+      took time image stint.end gives before.port after.port now ran behind (request.Fetch before.pc) e ran_is refl served.given (sym (fetch_made time e now)) in
+      let in_time : before.clock + time e < stint.end = omega (arith, clock, h.in_time) in
+      let fewer : most_accesses stint.end behind < most_accesses stint.end now = omega (arith, most_before stint.end behind in_time, most_before stint.end now early, some) in
+      let fetched_left : most_left behind.core ≡ 256 = refl in
+      let one : TakesOne time image stint.end gives logged_of number before.port after.port now behind e = record {
+        turn = turn;
+        core = served.core ∙ here.core;
+        starts = omega (arith, served.starts, early, end_within stint.end now);
+        fewer = fewer;
+        not_later = latest_kept stint.end now behind (omega (arith, fetched_left)) (omega (arith, in_time));
+        begun = omega arith;
+        memory = refl;
+        fetching = refl;
+        logged = served.logged;
+      } in
+      let (entries, (many, these)) = here.these in
+      let taken = these_more time image stint.end gives logged_of number entries e first before.port after.port c now behind these one in
+      let At : List ℕ → ℕ → Option ℕ → Option InProgress → Bool → ℕ → ℕ → TimedCore = λ registers pc line instruction fetched clock count. record c {
+        core = record c.core { registers = registers; pc = pc; fetched_line = line; instruction = instruction; is_fetched = fetched };
+        clock = clock;
+        instructions = c.instructions + count;
+      } in
+      let latest : next.core.fetched_line ≡ Some (line_at before.pc) = rw fetching h.line in
+      let is : next ≡ taking behind =
+      ap (λ r. At r after.pc next.core.fetched_line c.core.instruction c.core.is_fetched after.clock after.count) h.registers
+      ∙ ap (λ p. At before.registers p next.core.fetched_line c.core.instruction c.core.is_fetched after.clock after.count) h.pc
+      ∙ ap (λ l. At before.registers before.pc l c.core.instruction c.core.is_fetched after.clock after.count) latest
+      ∙ ap (λ i. At before.registers before.pc (Some (line_at before.pc)) i c.core.is_fetched after.clock after.count) (waits_not c.core free)
+      ∙ ap (λ f. At before.registers before.pc (Some (line_at before.pc)) None f after.clock after.count) unfetched
+      ∙ ap (λ k. At before.registers before.pc (Some (line_at before.pc)) None false k after.count) clock
+      ∙ ap (λ i. At before.registers before.pc (Some (line_at before.pc)) None false (before.clock + time e) i) h.count in
+      let same : ran_to image stint.end next ≡ ran_to image stint.end behind = ap (ran_to image stint.end) is ∙ fetched_goes_on image stint.end (time e) now none free in_time in
+      let settles : Settles time image stint.end gives behind next = record {
+        ran = same;
+        begun = omega (arith, clock);
+        not_later = idle_latest stint.end behind next (idle_left c.core idle) (omega (arith, h.in_time));
+        fewer = few_later stint.end behind next (idle_left c.core idle) (omega (arith, clock));
+        memory = refl;
+        fetching = refl;
+      } in
+      record {
+        these = (entries ++ e ∷ [], (one_longer n entries e many, these_on time image stint.end gives logged_of number (entries ++ e ∷ []) first after.port c behind next taken settles));
+        in_time = omega (arith, h.in_time);
+        later = omega (arith, here.later, h.clock, h.count);
+        lined = record { some = λ yes. ap is_some h.line; none = λ no. absurd (true≢false (sym fetching ∙ no)) };
+        core = served.same ∙ here.core;
+      }
+
+  pub comes : (n : ℕ) (before after : Moment Port) → GoesOn image memory stint gives core_of logged_of n before after → Comes 0 before → Comes n after
+  comes zero before after runs here = comes_on 0 before after runs here
+  comes (suc n) before after (s, (t, (path, (step, runs)))) here =
+      let there : Comes n s = comes n before s path here in
+      comes_on (suc n) t after runs (elim step [
+        | inl hit ↦ comes_by_hit n s t hit there
+        | inr fetch ↦ comes_by_fetch n s t fetch there
+      ])
+
+  comes_first : IsLined c.core.fetching (line_of c.core) → core_of first ≡ number → c.clock ≤ stint.end
+      → Comes 0 (record { registers = c.core.registers; pc = c.core.pc; line = line_of c.core; clock = c.clock; count = 0; port = first })
+  comes_first lined core in_time =
+      record {
+        these = ([], (refl, (refl, subst (Settles time image stint.end gives c) (sym (stands_first c)) (settles_itself time image stint.end gives c))));
+        in_time = in_time;
+        later = omega arith;
+        lined = lined;
+        core = core;
+      }
+
+  pub has_come : (room_of : Port → ℕ) (made : ℕ) (after : CoreState) (clock count : ℕ) (last : Port) → IsOnItsWay c.core after → (c.core.fetching ≡ true → IsSome c.core.fetched_line)
+      → core_of first ≡ number → c.clock ≤ stint.end
+      → HasGoneOn image memory stint gives core_of logged_of room_of made (moment_of c.core c.clock 0 first) (moment_of after clock count last)
+      → HasCome time image stint.end gives logged_of number made count first last c (record c { core = after; clock = clock; instructions = c.instructions + count })
+  has_come room_of made after clock count last way fetched core in_time gone =
+      let next : TimedCore = record c { core = after; clock = clock; instructions = c.instructions + count } in
+      let m : Moment Port = moment_of after clock count last in
+      let came = comes made (moment_of c.core c.clock 0 first) m gone.path (comes_first (first_lined c.core.fetching c.core.fetched_line fetched) core in_time) in
+      let fetching : after.fetching ≡ c.core.fetching = ap (λ (core : CoreState). core.fetching) way in
+      let At : Option ℕ → CoreState = λ line. record c.core { registers = after.registers; pc = after.pc; fetched_line = line } in
+      let is : stands c m ≡ next =
+      ap (λ core. record c { core = core; clock = clock; instructions = c.instructions + count }) (ap At (line_same c.core.fetching after.fetching after.fetched_line c.core.fetched_line fetching) ∙ sym way) in
+      let (entries, (many, these)) = came.these in
+      record {
+        these = (entries, (many, subst (TakesThese time image stint.end gives logged_of number entries first last c) is these));
+        later = came.later;
+        in_time = came.in_time;
+        latest = subst (λ t. latest_clock stint.end t ≤ latest_clock stint.end c) is (idle_latest stint.end c (stands c m) (idle_left c.core idle) came.in_time);
+      }
+
+-- the same, by what the code knows
+pub came_on : {Port : Type 0} {image : MemoryImage} {stint : Stint} {gives : Port → (start : ℕ) → Request → Entry → Port → Type 0} {core_of : Port → ℕ} {logged_of : Port → Option (List Entry)} {room_of : Port → ℕ} {made : ℕ}
+    (time : Entry → ℕ) (number : ℕ) (first last : Port) (c : TimedCore) (after : CoreState) (clock count : ℕ)
+    → is_none c.pace ≡ true → is_idle c.core ≡ true → (c.core.fetching ≡ true → IsSome c.core.fetched_line) → core_of first ≡ number → c.clock < stint.end
+    → ((e : Entry) → e.outcome ≡ Hit → is_fetch e.request ≡ false → time e ≡ stint.hit) → ((e : Entry) → e.outcome ≡ Hit → is_fetch e.request ≡ true → time e ≡ stint.fetch_hit) → ((e : Entry) → 1 ≤ time e)
+    → IsOnItsWay c.core after → HasGoneOn image c.core.memory stint gives core_of logged_of room_of made (moment_of c.core c.clock 0 first) (moment_of after clock count last)
+    → HasCome time image stint.end gives logged_of number made count first last c (record c { core = after; clock = clock; instructions = c.instructions + count })
+came_on {image = image} {stint = stint} {gives = gives} {core_of = core_of} {logged_of = logged_of} {room_of = room_of} {made = made} time number first last c after clock count none idle fetched core early hit_time fetch_time takes_time way gone =
+    has_come time image c.core.memory stint gives core_of logged_of number first c (none_of c.pace none) idle refl hit_time fetch_time takes_time room_of made after clock count last way fetched core (omega (arith, early)) gone
