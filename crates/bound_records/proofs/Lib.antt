@@ -3,9 +3,11 @@ mod ByTurns
 mod Chained
 mod Counted
 mod InOrder
+mod KeptInTurns
 mod Lists
 mod OneMore
 mod SameCores
+mod TakingHits
 mod TakingTurns
 mod Turns
 mod TurnsBegin

@@ -38,7 +38,7 @@ halted_stops : (end : ℕ) (c : TimedCore) (halted : Option Why) → c.core.halt
 halted_stops end c None e some = cc
 halted_stops end c (Some why) e some = rw e refl
 
-over_asks : (image : MemoryImage) (end : ℕ) (c : TimedCore) → IsOver end c → asks (ran_to image end c) ≡ None
+pub over_asks : (image : MemoryImage) (end : ℕ) (c : TimedCore) → IsOver end c → asks (ran_to image end c) ≡ None
 over_asks image end c over =
     let stops : goes_on_alone end c ≡ false = elim over.over [ inl halted ↦ halted_stops end c c.core.halted refl halted | inr late ↦ late_stops end c late.0 late.1 ] in
     ap asks (ran_stays image end c stops) ∙ ap next_request over.idle
@@ -270,6 +270,11 @@ module _ (time : Entry → ℕ) (image : MemoryImage) (end most : ℕ) (r : Reco
       starts = All-push (λ (x : Entry). x.start ≤ 2 ^ 34) h.taken e h.starts (let s = start_soon in omega (arith, s, small));
       reach = All-push (IsInReach r.begin r.base) h.taken e h.reach near_it;
     }
+
+    -- it has an access less left
+    pub left_taken : (small : end ≤ 10 * 2 ^ 30) → (one_taken small).left ≡ slice_set h.left number (get_or h.left number 0 - 1)
+    unfolding one_taken
+    left_taken small = refl
 
   -- ---- it ended its interval
 

@@ -39,4 +39,24 @@ impl<'a, G: Gate> Port for GatedPort<'a, G> {
         self.gate.pass(0, Point::Access { core: self.core });
         self.port.access(start, request)
     }
+
+    // A gate that somebody looks at is passed once before each access, whoever serves it.
+    #[inline(always)]
+    fn load_hit(&mut self, start: Cycle, addr: u64, width: u8) -> Option<u64> {
+        if self.gate.is_open() {
+            self.port.load_hit(start, addr, width)
+        } else {
+            None
+        }
+    }
+
+    #[inline(always)]
+    fn store_hit(&mut self, start: Cycle, addr: u64, width: u8, value: u64) -> bool {
+        self.gate.is_open() && self.port.store_hit(start, addr, width, value)
+    }
+
+    #[inline(always)]
+    fn fetch_hit(&mut self, start: Cycle, addr: u64) -> bool {
+        self.gate.is_open() && self.port.fetch_hit(start, addr)
+    }
 }

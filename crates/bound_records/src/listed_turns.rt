@@ -1,10 +1,10 @@
 //! The turns of an interval in the order of a list.
-ghost use Rattle.std.specs.Prelude.{◌≡◌, ◌*◌, ◌-◌, ◌<◌, ◌≤◌, ◌^◌, ℕ, List, [], All, false, length, min, true, Err, IfErr, IfOk, Ok};
+ghost use Rattle.std.specs.Prelude.{◌≡◌, ◌+◌, ◌*◌, ◌-◌, ◌<◌, ◌≤◌, ◌^◌, ◌++◌, ℕ, List, [], All, false, length, min, replicate, slice_get, slice_index, take, true, Err, IfErr, IfOk, Ok, Some};
 ghost use Rattle.zs_num.specs.declared.entry.Entry.{Entry};
 ghost use Rattle.bound_core.specs.ReferenceMachine.{BoundState, bound_phase};
 ghost use Rattle.bound_core.specs.ShardWorld.{ShardWorld, shards_serve};
 ghost use Rattle.bound_core.specs.ShardPort.{base_of, l1i_of, room_of, size_of};
-ghost use Rattle.bound_core.specs.NumberedCores.{timed_of};
+ghost use Rattle.bound_core.specs.NumberedCores.{NumberedCore, timed_of};
 ghost use Rattle.bound_core.specs.Turn.{IsOver};
 ghost use Rattle.weave_chains.specs.Listed.{list_of};
 ghost use Rattle.bound_records.specs.CoreRuns.{phase_in};
@@ -38,9 +38,13 @@ pub(crate) fn take_turns(
     ensures over { IfOk result (λ _. All (IsOver end) (timed_of cores.new)) }
     ensures count { length cores.new ≡ length cores.old }
 {
-    for (place, number) in turns.iter().enumerate() {
-        let core = &mut cores[usize::from(*number)];
-        if !take_turn(program, net, end, *number, core, port) {
+    let mut place = 0;
+    while place < turns.len() {
+        let number = turns[place];
+        let count = stretch(turns, place);
+        let taken = take_stretch(program, net, end, number, count, cores, port);
+        place += taken;
+        if taken < count {
             return Err(place as u32);
         }
     }
@@ -49,6 +53,79 @@ pub(crate) fn take_turns(
     } else {
         Err(turns.len() as u32)
     }
+}
+
+/// How many turns of one core stand in the list one after the other, from this place on.
+fn stretch(turns: &[u16], place: usize) -> usize
+    requires place { place < length turns.now }
+    ensures some { 0 < result }
+    ensures within { place + result ≤ length turns.now }
+    ensures same { take (place + result) turns.now ≡ take place turns.now ++ replicate result (slice_index turns.now place) }
+{
+    let mut count = 1;
+    while place + count < turns.len() && turns[place + count] == turns[place] {
+        count += 1;
+    }
+    count
+}
+
+/// Takes so many turns of the core of this number, one after the other, and answers how many it
+/// took: where they are fewer, the core has no access before it ends its interval.
+fn take_stretch(
+    program: &DecodedProgram<'_>,
+    net: &Net,
+    end: Cycle,
+    number: u16,
+    count: usize,
+    cores: &mut [BoundCore],
+    port: &mut TurnPort,
+) -> usize
+    requires end { end ≤ 10 * 2 ^ 30 }
+    requires known { number < length cores.old }
+    requires taken { (most : ℕ) × (r : RecorderState) × (first : BoundState ShardWorld) × (turns : List ℕ) × HaveTaken (time_by_net net.now) program.now end most r first turns cores.old port.old.recorder }
+    ensures few { result ≤ count }
+    ensures taken { (most : ℕ) (r : RecorderState) (first : BoundState ShardWorld) (turns : List ℕ) → HaveTaken (time_by_net net.now) program.now end most r first turns cores.old port.old.recorder → HaveTaken (time_by_net net.now) program.now end most r first (turns ++ replicate result number) cores.new port.new.recorder }
+    ensures over { result < count → (core : NumberedCore) → slice_get cores.new number ≡ Some core → IsOver end core.timed }
+    ensures count { length cores.new ≡ length cores.old }
+{
+    let mut taken = 0;
+    while taken < count {
+        taken += take_hits(program, net, end, number, count - taken, cores, port);
+        if taken < count {
+            let core = &mut cores[usize::from(number)];
+            if !take_turn(program, net, end, number, core, port) {
+                return taken;
+            }
+            taken += 1;
+        }
+    }
+    taken
+}
+
+/// Takes turns of the core of this number whose accesses are hits that are at hand, `most` at most,
+/// and answers how many it took, which may be 0.
+fn take_hits(
+    program: &DecodedProgram<'_>,
+    net: &Net,
+    end: Cycle,
+    number: u16,
+    most: usize,
+    cores: &mut [BoundCore],
+    port: &mut TurnPort,
+) -> usize
+    requires end { end ≤ 10 * 2 ^ 30 }
+    requires known { number < length cores.old }
+    requires taken { (most : ℕ) × (r : RecorderState) × (first : BoundState ShardWorld) × (turns : List ℕ) × HaveTaken (time_by_net net.now) program.now end most r first turns cores.old port.old.recorder }
+    ensures few { result ≤ most }
+    ensures taken { (most : ℕ) (r : RecorderState) (first : BoundState ShardWorld) (turns : List ℕ) → HaveTaken (time_by_net net.now) program.now end most r first turns cores.old port.old.recorder → HaveTaken (time_by_net net.now) program.now end most r first (turns ++ replicate result number) cores.new port.new.recorder }
+    ensures count { length cores.new ≡ length cores.old }
+{
+    let core = &mut cores[usize::from(number)];
+    if core.halted().is_some() || core.clock() >= end {
+        return 0;
+    }
+    port.choose(number);
+    core.take_hits(program, net, end, most as u64, port) as usize
 }
 
 /// Has each core end its interval. Answers false where one still has an access.

@@ -1,7 +1,7 @@
 //! A program as a type of its own.
 ghost use Rattle.std.specs.Prelude.{◌≡◌};
 
-use rv_core::{Fetched, MemoryRange, Program, Ran};
+use rv_core::{Came, Fetched, MemoryRange, Port, Program, Ran, Stint};
 use rv_decode::Inst;
 
 /// A program as a type of its own. What is compiled for it is compiled for one loop over
@@ -46,5 +46,19 @@ impl<'a, P: Program> Program for OwnProgram<'a, P> {
         line: u64,
     ) -> Ran {
         self.program.run_in_line(registers, pc, most, memory, line)
+    }
+
+    #[inline(always)]
+    fn run_hits<Q: Port>(
+        &self,
+        registers: &mut [u64; 32],
+        pc: u64,
+        line: Option<u64>,
+        memory: &MemoryRange,
+        stint: &Stint,
+        port: &mut Q,
+    ) -> Came {
+        self.program
+            .run_hits(registers, pc, line, memory, stint, port)
     }
 }

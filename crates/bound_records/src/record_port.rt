@@ -1,8 +1,12 @@
 //! A port through which a core accesses caches and memory, and which records what they do.
-ghost use Rattle.std.specs.Prelude.{◌≡◌, ◌≤◌, ◌<◌, ◌++◌, ◌∷◌, [], length};
+ghost use Rattle.std.specs.Prelude.{◌≡◌, ◌≤◌, ◌<◌, ◌+◌, ◌-◌, ◌++◌, ◌∷◌, [], length, min, IfNone, IfSome, Some};
+ghost use Rattle.zs_num.specs.Servable.{IsServable};
 ghost use Rattle.access_record.specs.BankLogs.{makes_events};
 ghost use Rattle.access_record.specs.Laws.{beyond_hits};
+ghost use Rattle.rv_core.specs.Port.{IsHit};
+ghost use Rattle.bound_core.specs.ShardPort.{base_of, l1i_of, room_of, size_of};
 ghost use Rattle.bound_records.specs.Counted.{count_of};
+ghost use Rattle.bound_records.specs.Recorders.{GivesRecorded};
 
 use access_record::{BankLog, RecordLog};
 use bound_core::{PartsPort, Port};
@@ -10,6 +14,14 @@ use division::remainder;
 use stats::{CoreCount, count_access};
 use std::marker::Model;
 use zs_num::{Cycle, Entry, Outcome, Request};
+
+/// The hits of loads, those of stores, and those of fetches: what is compiled for each is compiled
+/// for one call.
+struct Loads;
+
+struct Stores;
+
+struct Fetches;
 
 /// What is kept of a core's accesses in an interval: a byte of each, what all count, and a record of
 /// each that makes events.
@@ -51,6 +63,31 @@ impl RecordPort {
         RecordPort { port, record }
     }
 
+    /// Serves an access that starts then, where the core's own L1 can serve it alone: a hit. The
+    /// answer is the reply. None: nothing changes.
+    #[inline(always)]
+    fn hit<T>(&mut self, start: Cycle, request: Request) -> Option<u64>
+        requires room { 1 ≤ min (room_of self.old.world) (self.old.room - length self.old.entries) }
+        requires servable { IsServable (base_of self.old.world) (size_of self.old.world) (l1i_of self.old.world) request }
+        ensures hit { IfSome result (λ reply. IsHit GivesRecorded (λ p. p.core) (λ p. Some p.entries) self.old start request reply self.new) }
+        ensures none { IfNone result (self.new ≡ self.old) }
+        ensures same_core { self.new.core ≡ self.old.core }
+        ensures same_base { base_of self.new.world ≡ base_of self.old.world }
+        ensures same_size { size_of self.new.world ≡ size_of self.old.world }
+        ensures same_l1i { l1i_of self.new.world ≡ l1i_of self.old.world }
+        ensures room { min (room_of self.old.world) (self.old.room - length self.old.entries) ≤ min (room_of self.new.world) (self.new.room - length self.new.entries) + 1 }
+    {
+        let entry = self.port.access_alone::<T>(start, request)?;
+        let record = &mut self.record;
+        keep::<T>(
+            &mut record.log,
+            &mut record.records,
+            &mut record.count,
+            &entry,
+        );
+        Some(entry.reply)
+    }
+
     /// Gives back what it took in.
     pub(crate) fn finish(self) -> (PartsPort, CoreRecord)
         ensures port { result.0 ≡ record { world = self.world; core = self.core } }
@@ -85,7 +122,7 @@ impl Port for RecordPort {
     fn access(&mut self, start: Cycle, request: Request) -> Entry {
         let entry = self.port.access(start, request);
         let record = &mut self.record;
-        keep(
+        keep::<RecordPort>(
             &mut record.log,
             &mut record.records,
             &mut record.count,
@@ -93,11 +130,33 @@ impl Port for RecordPort {
         );
         entry
     }
+
+    #[inline(always)]
+    fn load_hit(&mut self, start: Cycle, addr: u64, width: u8) -> Option<u64> {
+        self.hit::<Loads>(start, Request::Load { addr, width })
+    }
+
+    #[inline(always)]
+    fn store_hit(&mut self, start: Cycle, addr: u64, width: u8, value: u64) -> bool {
+        self.hit::<Stores>(start, Request::Store { addr, width, value })
+            .is_some()
+    }
+
+    #[inline(always)]
+    fn fetch_hit(&mut self, start: Cycle, addr: u64) -> bool {
+        self.hit::<Fetches>(start, Request::Fetch { addr })
+            .is_some()
+    }
 }
 
 /// Keeps an access of a core.
 #[inline(always)]
-pub(crate) fn keep(log: &mut BankLog, records: &mut RecordLog, count: &mut CoreCount, entry: &Entry)
+pub(crate) fn keep<T>(
+    log: &mut BankLog,
+    records: &mut RecordLog,
+    count: &mut CoreCount,
+    entry: &Entry,
+)
     requires core { entry.now.core ≡ log.old.core }
     requires some { 0 < log.old.banks }
     requires room { length log.old.entries < log.old.room }

@@ -9,7 +9,7 @@ use Rattle.bound_records.proofs.Lists.{fewer}
 use Rattle.bound_records.proofs.record_port.keep.Goals as goal
 
 pub count_access-requires : goal.count_access-requires
-count_access-requires c =
+count_access-requires g c =
     let entries = c.args.log.now.entries in
     let most = c.banks.ensures.short in
     let within = c.requires.room in
@@ -17,7 +17,7 @@ count_access-requires c =
     subst (λ (count : CoreCount). CoreFits (with_access count c.args.entry.now)) (sym c.requires.count) (more_fits entries c.args.entry.now short)
 
 pub put-requires-then-makes_events-clause-room : goal.put-requires-then-makes_events-clause-room
-put-requires-then-makes_events-clause-room c =
+put-requires-then-makes_events-clause-room g c =
     let entries = c.args.log.now.entries in
     let same : length c.args.records.now.entries ≡ length (beyond_hits entries) = ap length c.requires.kept in
     let few = fewer (λ e. makes_events e.outcome) entries in
