@@ -24,6 +24,10 @@ impl Gate for CaseGate<'_> {
             CaseGate::Meeting(gate) => gate.pass(worker, point),
         }
     }
+
+    fn is_open(&self) -> bool {
+        matches!(self, CaseGate::Open)
+    }
 }
 
 /// A gate that counts accesses, by worker 0, by the others, and of core 3; and events: all, those
