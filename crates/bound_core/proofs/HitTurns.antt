@@ -85,7 +85,7 @@ stands_first c =
 
 -- ---- how many accesses it has left
 
-idle_parts : (core : CoreState) → is_idle core ≡ true → (is_free core ≡ true) × (core.is_fetched ≡ false)
+pub idle_parts : (core : CoreState) → is_idle core ≡ true → (is_free core ≡ true) × (core.is_fetched ≡ false)
 idle_parts core idle =
     let parts = and_parts (is_free core) (not core.is_fetched) idle in (parts.0, fetched_not core.is_fetched parts.1)
   where
@@ -93,7 +93,7 @@ idle_parts core idle =
     fetched_not true e = cc
     fetched_not false e = refl
 
-none_of : {A : Type 0} (o : Option A) → is_none o ≡ true → o ≡ None
+pub none_of : {A : Type 0} (o : Option A) → is_none o ≡ true → o ≡ None
 none_of None e = refl
 none_of (Some x) e = absurd (true≢false (sym e))
 

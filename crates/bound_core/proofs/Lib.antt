@@ -18,6 +18,7 @@ pub mod LittleEndian
 pub mod LoadsStores
 pub mod MachineRuns
 pub mod Meeting
+mod MetBehindHits
 pub mod MoreServable
 pub mod NewShards
 pub mod Numbered

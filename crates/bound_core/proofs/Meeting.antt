@@ -13,7 +13,7 @@ use Rattle.rv_core.specs.CoreState.{CoreState}
 use Rattle.rv_core.specs.Single.{access_of, begun, begun_if, comes_to_next, met_by}
 use Rattle.rv_core.specs.Sound.{IsSoundCore}
 use Rattle.rv_core.specs.Step.{answered, is_free}
-use Rattle.bound_core.specs.TimedCore.{TimedCore, core_after_access, goes_on_alone, ran_to}
+use Rattle.bound_core.specs.TimedCore.{TimedCore, asks, core_after_access, goes_on_alone, ran_to}
 use Rattle.bound_core.specs.Met.{begun_in_time}
 use Rattle.bound_core.proofs.CoreKept.{CoreLaws, ran_stays_sound}
 use Rattle.bound_core.proofs.MoreServable.{more_servable}
@@ -62,3 +62,8 @@ access_made time e (Load addr destination) c =
     ap (λ console. record c { core = answered e.reply (begun (Load addr destination) c.core); clock = c.clock + time e; console = console }) (append-nil c.console)
 access_made time e (Store addr width value) c =
     ap (λ console. record c { core = answered e.reply (begun (Store addr width value) c.core); clock = c.clock + time e; console = console }) (append-nil c.console)
+
+-- a core that has no access to make came to none
+pub none_asked : (met : Option Single) (c : TimedCore) → asks (begun_in_time met c) ≡ None → begun_in_time met c ≡ c
+none_asked None c asked = refl
+none_asked (Some single) c asked = cc

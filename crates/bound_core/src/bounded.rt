@@ -1,16 +1,17 @@
 //! One core in an interval.
-ghost use Rattle.std.specs.Prelude.{◌≡◌, ◌+◌, ◌-◌, ◌≤◌, ◌<◌, ◌^◌, List, length, max, min, true, false, ◌∷◌, [], Some, None, IfOk, OnOk, IsTrue};
+ghost use Rattle.std.specs.Prelude.{◌≡◌, ◌+◌, ◌-◌, ◌≤◌, ◌<◌, ◌^◌, List, length, max, min, true, false, ◌∷◌, [], Some, None, IfOk, IfSome, OnOk, IsSome, IsTrue};
 ghost use Rattle.machine_desc.specs.InstructionCaches.{has_l1i};
 ghost use Rattle.zs_num.specs.declared.entry.Entry.{Entry};
 ghost use Rattle.zs_num.specs.Servable.{IsServable};
 ghost use Rattle.machine_desc.specs.Machine.{IsMachine};
-ghost use Rattle.rv_core.specs.Single.{access_of, begun};
-ghost use Rattle.rv_core.specs.Sound.{IsSoundCore};
+ghost use Rattle.rv_core.specs.Single.{begun_if};
+ghost use Rattle.rv_core.specs.Sound.{IsServableIn, IsSoundCore};
 ghost use Rattle.rv_core.specs.Port.{Gains};
 ghost use Rattle.bound_core.specs.TimedCore.{asks, beside_cycles, core_after_access, delayed, first_core, ran_to};
 ghost use Rattle.bound_core.specs.Pacing.{IsSoon};
 ghost use Rattle.bound_core.specs.IntervalBounds.{latest_clock, most_accesses};
-ghost use Rattle.bound_core.specs.Met.{begun_in_time};
+ghost use Rattle.bound_core.specs.Ahead.{ahead};
+ghost use Rattle.bound_core.specs.Met.{answered_in_time, begun_in_time};
 ghost use Rattle.bound_core.specs.Taken.{HasTaken, TakesThese};
 ghost use Rattle.bound_core.specs.Turn.{EndsInterval, IfTook, IsOver, RunsToEnd, TookOne, TurnsAs};
 
@@ -22,7 +23,7 @@ use elf_load::Image;
 use event_graph::Expand;
 use machine_desc::Machine;
 use pipe_core::Pace;
-use rv_core::{Core, Port, Program, Single, Stint, Why};
+use rv_core::{Came, Core, Port, Program, Single, Stint, Why};
 use std::alloc::Global;
 use std::marker::Model;
 use zs_num::{Cycle, Entry, NoMemory, Request};
@@ -207,12 +208,10 @@ impl BoundCore {
         ensures port_room { Q.room port.old ≤ Q.room port.new + 1 }
         ensures port_logged { IfTook result (λ e. Gains (Q.logged port.old) (e ∷ []) (Q.logged port.new)) }
     {
-        match self.run_local(program, end) {
-            Some(single) => Turned::Took(self.make(expansion, port, single)),
-            None => match self.core.request() {
-                Some(request) => Turned::Took(self.access(expansion, port, request)),
-                None => Turned::Ended,
-            },
+        let met = self.run_local(program, end);
+        match self.asked(met) {
+            Some(request) => Turned::Took(self.make(expansion, port, request, met)),
+            None => Turned::Ended,
         }
     }
 
@@ -289,8 +288,8 @@ impl BoundCore {
         ensures port_room { result ≡ true → Q.room port.old + most_accesses end self.new.timed ≤ Q.room port.new + most_accesses end self.old.timed }
         ensures room_left { Q.room port.old ≤ Q.room port.new + most_accesses end self.old.timed }
     {
-        self.take_hits(program, expansion, end, u64::MAX, port);
-        self.take_turn(program, expansion, end, port)
+        let met = self.go_by_hits(program, expansion, end, u64::MAX, port).met;
+        self.take_turn(program, expansion, end, met, port)
     }
 
     /// Takes turns of the interval that ends at cycle `end` whose accesses are hits that the port
@@ -327,6 +326,46 @@ impl BoundCore {
         ensures port_l1i { Q.l1i port.new ≡ Q.l1i port.old }
         ensures port_room { Q.room port.old ≤ Q.room port.new + result }
     {
+        let came = self.go_by_hits(program, expansion, end, most, port);
+        came.accesses
+    }
+
+    /// The same. It answers also the access to which the core came, if the next instruction makes one
+    /// that is no hit.
+    #[inline(always)]
+    fn go_by_hits<P: Program, X: Expand, Q: Port>(
+        &mut self,
+        program: &P,
+        expansion: &X,
+        end: Cycle,
+        most: u64,
+        port: &mut Q,
+    ) -> Came
+        requires core { Q.core port.old ≡ self.old.number }
+        requires base { Q.base port.old ≡ self.old.timed.core.memory.base }
+        requires size { Q.size port.old ≡ self.old.timed.core.memory.size }
+        requires l1i { IsTrue self.old.timed.core.fetching → IsTrue (Q.l1i port.old) }
+        requires room { min most (most_accesses end self.old.timed) ≤ Q.room port.old }
+        requires clock { self.old.timed.clock ≤ 2 ^ 61 }
+        requires end { end ≤ 2 ^ 61 }
+        ensures few { result.accesses ≤ most }
+        ensures these { (entries : List Entry) × ((length entries ≡ result.accesses) × TakesThese (X.time expansion.now) (P.image program.now) end Q.gives Q.logged self.old.number entries port.old port.new self.old.timed self.new.timed) }
+        ensures met { IfSome result.met (λ single. begun_in_time (Some single) (ahead 1 self.new.timed) ≡ ran_to (P.image program.now) end self.new.timed) }
+        ensures early { IsSome result.met → self.new.timed.clock < end }
+        ensures pace { IsSome result.met → self.new.timed.pace ≡ None }
+        ensures begun { self.old.timed.clock ≤ self.new.timed.clock }
+        ensures within { self.new.timed.clock ≤ max self.old.timed.clock end }
+        ensures latest { latest_clock end self.new.timed ≤ latest_clock end self.old.timed }
+        ensures number { self.new.number ≡ self.old.number }
+        ensures memory { self.new.timed.core.memory ≡ self.old.timed.core.memory }
+        ensures fetching { self.new.timed.core.fetching ≡ self.old.timed.core.fetching }
+        ensures spare { self.new.spare ≡ self.old.spare }
+        ensures port_core { Q.core port.new ≡ Q.core port.old }
+        ensures port_base { Q.base port.new ≡ Q.base port.old }
+        ensures port_size { Q.size port.new ≡ Q.size port.old }
+        ensures port_l1i { Q.l1i port.new ≡ Q.l1i port.old }
+        ensures port_room { Q.room port.old ≤ Q.room port.new + result.accesses }
+    {
         if self.clock < end && self.pace.is_none() && self.core.may_go_on() {
             let stint = Stint {
                 clock: self.clock,
@@ -338,26 +377,31 @@ impl BoundCore {
             let came = self.core.run_hits(program, &stint, port);
             self.clock = came.clock;
             self.instructions += came.count;
-            came.accesses
+            came
         } else {
-            0
+            Came::nowhere(0, None, 0)
         }
     }
 
-    /// A turn, without its entry: whether it took one. An entry that is handed out is copied whole,
-    /// with the unused bytes between its fields, for which the processor waits.
+    /// A turn, without its entry: whether it took one. `met` is the access to which the core came, if
+    /// it came to one before. An entry that is handed out is copied whole, with the unused bytes
+    /// between its fields, for which the processor waits.
     #[inline(always)]
     fn take_turn<P: Program, X: Expand, Q: Port>(
         &mut self,
         program: &P,
         expansion: &X,
         end: Cycle,
+        met: Option<Single>,
         port: &mut Q,
     ) -> bool
         requires core { Q.core port.old ≡ self.old.number }
         requires base { Q.base port.old ≡ self.old.timed.core.memory.base }
         requires size { Q.size port.old ≡ self.old.timed.core.memory.size }
         requires l1i { IsTrue self.old.timed.core.fetching → IsTrue (Q.l1i port.old) }
+        requires met { IfSome met (λ single. begun_in_time (Some single) (ahead 1 self.old.timed) ≡ ran_to (P.image program.now) end self.old.timed) }
+        requires early { IsSome met → self.old.timed.clock < end }
+        requires pace { IsSome met → self.old.timed.pace ≡ None }
         requires room { 1 ≤ Q.room port.old }
         requires spare { 1 ≤ self.old.spare }
         requires clock { self.old.timed.clock ≤ 2 ^ 61 }
@@ -378,35 +422,50 @@ impl BoundCore {
         ensures port_l1i { Q.l1i port.new ≡ Q.l1i port.old }
         ensures port_room { Q.room port.old ≤ Q.room port.new + 1 }
     {
-        match self.run_local(program, end) {
-            Some(single) => {
-                self.make(expansion, port, single);
+        let met = self.run_to_access(program, end, met);
+        match self.asked(met) {
+            Some(request) => {
+                self.make(expansion, port, request, met);
                 true
             }
-            None => match self.core.request() {
-                Some(request) => {
-                    self.access(expansion, port, request);
-                    true
-                }
-                None => false,
-            },
+            None => false,
         }
     }
 
-    /// Makes the access that the core waits for.
+    /// The access that the core makes next: the one to which it came, or that of the instruction in
+    /// progress.
     #[inline(always)]
-    #[tactic(auto, unfolding(crate::specs::TimedCore::core_after_access))]
-    fn access<X: Expand, Q: Port>(&mut self, expansion: &X, port: &mut Q, request: Request) -> Entry
-        requires asked { asks self.old.timed ≡ Some request }
+    fn asked(&self, met: Option<Single>) -> Option<Request>
+        requires { IsSoundCore (begun_if met self.now.timed.core) }
+        ensures value { result ≡ asks (begun_in_time met self.now.timed) }
+        ensures served { IfSome result (IsServableIn self.now.timed.core.memory self.now.timed.core.fetching) }
+    {
+        match met {
+            Some(single) => Some(single.request()),
+            None => self.core.request(),
+        }
+    }
+
+    /// Makes the access to which the core came, and ends its instruction, which it has not begun; or
+    /// the access that the core waits for. Both are one call of the port, so that what this does is
+    /// compiled once, into the loop over turns.
+    #[inline(always)]
+    fn make<X: Expand, Q: Port>(
+        &mut self,
+        expansion: &X,
+        port: &mut Q,
+        request: Request,
+        met: Option<Single>,
+    ) -> Entry
+        requires asked { asks (begun_in_time met self.old.timed) ≡ Some request }
+        requires begun { IsSoundCore (begun_if met self.old.timed.core) }
         requires core { Q.core port.old ≡ self.old.number }
-        requires base { Q.base port.old ≡ self.old.timed.core.memory.base }
-        requires size { Q.size port.old ≡ self.old.timed.core.memory.size }
         requires room { 1 ≤ Q.room port.old }
         requires spare { 1 ≤ self.old.spare }
         requires clock { self.old.timed.clock ≤ 2 ^ 62 }
         requires servable { IsServable (Q.base port.old) (Q.size port.old) (Q.l1i port.old) request }
         ensures given { Q.gives port.old self.old.timed.clock request result port.new }
-        ensures left { self.new.timed ≡ core_after_access (X.time expansion.now) result self.old.timed }
+        ensures left { self.new.timed ≡ core_after_access (X.time expansion.now) result (begun_in_time met self.old.timed) }
         ensures core { result.core ≡ self.old.number }
         ensures start { result.start ≡ self.old.timed.clock }
         ensures request { result.request ≡ request }
@@ -425,44 +484,31 @@ impl BoundCore {
         ensures port_logged { Gains (Q.logged port.old) (result ∷ []) (Q.logged port.new) }
     {
         let entry = port.access(self.clock, request);
-        if let Some(byte) = self.core.answer(entry.reply) {
-            self.console.push_reserved(byte);
-        }
+        self.take_reply(met, entry.reply);
         self.clock += expansion.time(&entry);
         entry
     }
 
-    /// Makes the access of an instruction that the core has not begun, and ends the instruction.
+    /// Takes the reply to an access: of the instruction to which the core came, which ends, or of the
+    /// one in progress.
     #[inline(always)]
-    #[tactic(auto, unfolding(crate::specs::TimedCore::core_after_access))]
-    fn make<X: Expand, Q: Port>(&mut self, expansion: &X, port: &mut Q, single: Single) -> Entry
-        requires begun { IsSoundCore (begun single self.old.timed.core) }
-        requires core { Q.core port.old ≡ self.old.number }
-        requires room { 1 ≤ Q.room port.old }
-        requires clock { self.old.timed.clock ≤ 2 ^ 62 }
-        requires servable { IsServable (Q.base port.old) (Q.size port.old) (Q.l1i port.old) (access_of single) }
-        ensures given { Q.gives port.old self.old.timed.clock (access_of single) result port.new }
-        ensures left { self.new.timed ≡ core_after_access (X.time expansion.now) result (begun_in_time (Some single) self.old.timed) }
-        ensures core { result.core ≡ self.old.number }
-        ensures start { result.start ≡ self.old.timed.clock }
-        ensures request { result.request ≡ access_of single }
-        ensures later { self.old.timed.clock < self.new.timed.clock }
-        ensures within { self.new.timed.clock ≤ self.old.timed.clock + 2 ^ 20 }
+    fn take_reply(&mut self, met: Option<Single>, reply: u64)
+        requires asked { IsSome (asks (begun_in_time met self.old.timed)) }
+        requires begun { IsSoundCore (begun_if met self.old.timed.core) }
+        requires spare { 1 ≤ self.old.spare }
+        ensures left { self.new.timed ≡ answered_in_time reply (begun_in_time met self.old.timed) }
         ensures number { self.new.number ≡ self.old.number }
         ensures memory { self.new.timed.core.memory ≡ self.old.timed.core.memory }
         ensures fetching { self.new.timed.core.fetching ≡ self.old.timed.core.fetching }
         ensures sound { IsSoundCore self.new.timed.core }
-        ensures spare { self.new.spare ≡ self.old.spare }
-        ensures port_core { Q.core port.new ≡ Q.core port.old }
-        ensures port_base { Q.base port.new ≡ Q.base port.old }
-        ensures port_size { Q.size port.new ≡ Q.size port.old }
-        ensures port_l1i { Q.l1i port.new ≡ Q.l1i port.old }
-        ensures port_room { Q.room port.old ≤ Q.room port.new + 1 }
-        ensures port_logged { Gains (Q.logged port.old) (result ∷ []) (Q.logged port.new) }
+        ensures spare { self.old.spare ≤ self.new.spare + 1 }
     {
-        let entry = port.access(self.clock, single.request());
-        self.core.complete(single, entry.reply);
-        self.clock += expansion.time(&entry);
-        entry
+        if let Some(single) = met {
+            self.core.complete(single, reply);
+            return;
+        }
+        if let Some(byte) = self.core.answer(reply) {
+            self.console.push_reserved(byte);
+        }
     }
 }

@@ -5,9 +5,10 @@ ghost use Rattle.rv_blocks.specs.Slots.{AreSlots};
 
 use crate::access::met;
 use crate::blocks::{OneByOne, Rest, lies_in, one_by_one};
+use crate::hits::Gone;
 use crate::slot::{Slot, slot_at};
 use elf_load::Image;
-use rv_core::{MemoryRange, Ran};
+use rv_core::{MemoryRange, Ran, Single};
 
 /// How far a loop came that ended there, of so many instructions at most, and the access to which it
 /// came, if its instruction may be executed: one of a line, if its number is given.
@@ -70,4 +71,28 @@ pub fn run_last(
 {
     let last = one_by_one(image, slots, first, x, rest.place, rest.left, None);
     ran_to::<OneByOne>(image, slots, first, x, last, most, memory, None)
+}
+
+/// The access to which the loop over hits came, if its instruction may be executed there.
+#[inline(always)]
+pub fn met_at<T>(
+    image: &Image,
+    slots: &[Slot],
+    first: u64,
+    x: &[u64; 32],
+    gone: &Gone,
+    memory: &MemoryRange,
+) -> Option<Single>
+    requires slots { AreSlots image.now first slots.now }
+    requires place { gone.now.place < length slots.now }
+    requires reach { memory.now.base + memory.now.size ≤ 2 ^ 48 }
+    ensures early { IfSome result (λ single. 0 < gone.now.left.cycles) }
+    ensures met { IfSome result (λ single. Meets image.now memory.now x.now (first + 4 * gone.now.place) single) }
+    ensures lies { IfSome result (λ single. LiesIn gone.now.line (first + 4 * gone.now.place)) }
+{
+    if gone.left.cycles == 0 || !lies_in(gone.line, first + 4 * gone.place as u64) {
+        return None;
+    }
+    let slot = slot_at(slots, gone.place);
+    met::<T>(image, slot, first, gone.place, slots.len(), x, memory)
 }

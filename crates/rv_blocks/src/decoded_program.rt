@@ -4,14 +4,14 @@ ghost use Rattle.rv_core.specs.Fetch.{fetched_at};
 ghost use Rattle.rv_core.specs.Decoded.{HasRegisters};
 ghost use Rattle.rv_blocks.specs.Decoded.{IsDecodedWord};
 
-use crate::answer::{ran_to, run_last};
+use crate::answer::{met_at, ran_to, run_last};
 use crate::blocks::{ByBlocks, OneByOne, by_blocks, one_by_one};
 use crate::hits::{Gone, by_hits};
 use crate::making::slots_of;
 use crate::perform::place_of;
 use crate::slot::Slot;
 use elf_load::{Image, Segment};
-use rv_core::{Came, Fetched, MemoryRange, Port, Program, Ran, Stint};
+use rv_core::{Came, Fetched, MemoryRange, Port, Program, Ran, Single, Stint};
 use rv_decode::Inst;
 use std::alloc::Global;
 use std::marker::Model;
@@ -274,7 +274,8 @@ impl Program for DecodedProgram<'_> {
                 let gone = by_hits::<Q>(
                     image, slots, first, registers, place, line, memory, stint, port,
                 );
-                came_by(first, stint, gone)
+                let met = met_at::<Q>(image, slots, first, registers, &gone, memory);
+                came_by(first, stint, gone, met)
             }
             None => Came::nowhere(pc, line, stint.clock),
         }
@@ -283,7 +284,7 @@ impl Program for DecodedProgram<'_> {
 
 /// How far the loop over hits came.
 #[inline(always)]
-fn came_by(first: u64, stint: &Stint, gone: Gone) -> Came
+fn came_by(first: u64, stint: &Stint, gone: Gone, met: Option<Single>) -> Came
     requires code { first + 4 * gone.place ≤ 2 ^ 48 }
     requires begins { stint.now.clock ≤ stint.now.end }
     requires left { gone.left.cycles + gone.left.waited ≤ stint.now.end - stint.now.clock }
@@ -293,6 +294,7 @@ fn came_by(first: u64, stint: &Stint, gone: Gone) -> Came
     ensures clock { result.clock ≡ stint.now.end - gone.left.cycles }
     ensures count { result.count ≡ stint.now.end - stint.now.clock - gone.left.cycles - gone.left.waited }
     ensures accesses { result.accesses ≡ stint.now.accesses - gone.left.accesses }
+    ensures met { result.met ≡ met }
 {
     Came {
         pc: first + 4 * gone.place as u64,
@@ -300,5 +302,6 @@ fn came_by(first: u64, stint: &Stint, gone: Gone) -> Came
         clock: stint.end - gone.left.cycles,
         count: stint.end - stint.clock - gone.left.cycles - gone.left.waited,
         accesses: stint.accesses - gone.left.accesses,
+        met,
     }
 }

@@ -64,7 +64,8 @@ pub trait Program {
 
     /// Executes such instructions, and loads and stores that the port serves at once as hits, from
     /// the one at `pc` on, or none: how many, the program chooses. For a core that fetches, and whose
-    /// latest fetch was of a line, which is given, it makes the fetches that are hits, too.
+    /// latest fetch was of a line, which is given, it makes the fetches that are hits, too. Where it
+    /// comes to a load or a store before the end, it may answer the access.
     fn run_hits<Q: Port>(
         &self,
         registers: &mut [u64; 32],
@@ -82,6 +83,9 @@ pub trait Program {
         requires room { stint.now.accesses ≤ Q.room port.old }
         requires begins { stint.now.clock ≤ stint.now.end }
         ensures gone { HasGoneOn (image self.now) memory.now stint.now Q.gives Q.core Q.logged Q.room result.accesses (record { registers = registers.old; pc = pc; line = line; clock = stint.now.clock; count = 0; port = port.old }) (record { registers = registers.new; pc = result.pc; line = result.line; clock = result.clock; count = result.count; port = port.new }) }
+        ensures early { IfSome result.met (λ single. result.clock < stint.now.end) }
+        ensures met { IfSome result.met (λ single. Meets (image self.now) memory.now registers.new result.pc single) }
+        ensures lies { IfSome result.met (λ single. LiesIn result.line result.pc) }
         ensures aligned { IsSome line → result.pc % 4 ≡ 0 }
         ensures line { IsSome line → IsSome result.line }
         ensures no_line { line ≡ None → result.line ≡ None }

@@ -9,8 +9,8 @@ ghost use Rattle.rv_core.specs.CoreState.{ToConsole};
 ghost use Rattle.rv_core.specs.Effect.{ended, goes_on, goes_through, goes_to, halts, register};
 ghost use Rattle.rv_core.specs.Fetch.{fetched_at};
 ghost use Rattle.rv_core.specs.Decoded.{HasRegisters};
-ghost use Rattle.rv_core.specs.Executions.{at, LeadsTo};
-ghost use Rattle.rv_core.specs.Hits.{may_go_on, moment_of, HasGoneOn, IsOnItsWay};
+ghost use Rattle.rv_core.specs.Executions.{at, LeadsTo, LiesIn};
+ghost use Rattle.rv_core.specs.Hits.{line_of, may_go_on, moment_of, HasGoneOn, IsOnItsWay};
 ghost use Rattle.rv_core.specs.Progress.{ending_of, IsNarrow};
 ghost use Rattle.rv_core.specs.Asked.{is_idle, is_in_progress};
 ghost use Rattle.rv_core.specs.Single.{begun};
@@ -275,6 +275,9 @@ impl Core {
         requires room { stint.now.accesses ≤ Q.room port.old }
         requires begins { stint.now.clock ≤ stint.now.end }
         ensures gone { HasGoneOn (P.image program.now) self.old.memory stint.now Q.gives Q.core Q.logged Q.room result.accesses (moment_of self.old stint.now.clock 0 port.old) (moment_of self.new result.clock result.count port.new) }
+        ensures early { IfSome result.met (λ single. result.clock < stint.now.end) }
+        ensures met { IfSome result.met (λ single. executed (P.image program.now) self.new ≡ begun single self.new) }
+        ensures lies { IfSome result.met (λ single. LiesIn (line_of self.new) self.new.pc) }
         ensures same { IsOnItsWay self.old self.new }
         ensures idle { IsTrue (is_idle self.new) }
         ensures line { IsTrue self.new.fetching → IsSome self.new.fetched_line }

@@ -1,6 +1,7 @@
 //! How long a core may go on by itself, and how far it came.
-ghost use Rattle.std.specs.Prelude.{◌≡◌};
+ghost use Rattle.std.specs.Prelude.{◌≡◌, None};
 
+use crate::Single;
 use zs_num::Cycle;
 
 /// How long a core may go on by itself.
@@ -31,6 +32,8 @@ pub struct Came {
     pub count: u64,
     /// How many accesses it made.
     pub accesses: u64,
+    /// The access of the next instruction, if it came to one that the port did not serve at once.
+    pub met: Option<Single>,
 }
 
 impl Came {
@@ -42,6 +45,7 @@ impl Came {
         ensures clock { result.clock ≡ clock }
         ensures count { result.count ≡ 0 }
         ensures accesses { result.accesses ≡ 0 }
+        ensures met { result.met ≡ None }
     {
         Came {
             pc,
@@ -49,6 +53,7 @@ impl Came {
             clock,
             count: 0,
             accesses: 0,
+            met: None,
         }
     }
 }

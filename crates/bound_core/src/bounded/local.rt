@@ -1,7 +1,7 @@
 //! What a core executes by itself in an interval: the instructions before its next access.
-ghost use Rattle.std.specs.Prelude.{◌≡◌, ◌+◌, ◌-◌, ◌*◌, ◌≤◌, ◌<◌, ◌^◌, max, false, Some, None, is_none, IsTrue, if◌then◌else◌};
+ghost use Rattle.std.specs.Prelude.{◌≡◌, ◌+◌, ◌-◌, ◌*◌, ◌≤◌, ◌<◌, ◌^◌, max, false, Some, None, is_none, IfSome, IsSome, IsTrue, if◌then◌else◌};
 ghost use Rattle.zs_num.specs.Request.{line_at};
-ghost use Rattle.rv_core.specs.Single.{begun_if, comes_to_next, met_by};
+ghost use Rattle.rv_core.specs.Single.{begun, begun_if, comes_to_next, met_by};
 ghost use Rattle.rv_core.specs.Sound.{IsSoundCore};
 ghost use Rattle.rv_core.specs.Step.{cost, is_free, is_latest, needs_fetch};
 ghost use Rattle.bound_core.specs.TimedCore.{after_instruction, goes_on_alone, ran_to};
@@ -16,6 +16,60 @@ use rv_core::{Did, Program, Ran, Single, Stepped, Why};
 use zs_num::Cycle;
 
 impl BoundCore {
+    /// Executes its local instructions, as `run_local` does. `met` is the access to which the core
+    /// came, if it came to one before: then its instruction is the only one that is left.
+    #[inline(always)]
+    pub(super) fn run_to_access<P: Program>(
+        &mut self,
+        program: &P,
+        end: Cycle,
+        met: Option<Single>,
+    ) -> Option<Single>
+        requires late { max self.old.timed.clock end ≤ 2 ^ 61 }
+        requires met { IfSome met (λ single. begun_in_time (Some single) (ahead 1 self.old.timed) ≡ ran_to (P.image program.now) end self.old.timed) }
+        requires early { IsSome met → self.old.timed.clock < end }
+        requires pace { IsSome met → self.old.timed.pace ≡ None }
+        ensures value { begun_in_time result self.new.timed ≡ ran_to (P.image program.now) end self.old.timed }
+        ensures begun_sound { IsSoundCore (begun_if result self.new.timed.core) }
+        ensures sound { IsSoundCore self.old.timed.core }
+        ensures soon { IsSoon self.old.timed }
+        ensures begun { self.old.timed.clock ≤ self.new.timed.clock }
+        ensures within { self.new.timed.clock ≤ max self.old.timed.clock end + 192 }
+        ensures number { self.new.number ≡ self.old.number }
+        ensures memory { self.new.timed.core.memory ≡ self.old.timed.core.memory }
+        ensures fetching { self.new.timed.core.fetching ≡ self.old.timed.core.fetching }
+        ensures spare { self.new.spare ≡ self.old.spare }
+    {
+        match met {
+            Some(single) => {
+                self.comes_to(program, end, single);
+                Some(single)
+            }
+            None => self.run_local(program, end),
+        }
+    }
+
+    /// Counts the instruction to whose access it came.
+    #[inline(always)]
+    fn comes_to<P: Program>(&mut self, _program: &P, _end: Cycle, _single: Single)
+        requires met { begun_in_time (Some _single) (ahead 1 self.old.timed) ≡ ran_to (P.image _program.now) _end self.old.timed }
+        requires early { self.old.timed.clock < _end }
+        requires late { _end ≤ 2 ^ 61 }
+        requires pace { self.old.timed.pace ≡ None }
+        ensures value { self.new.timed ≡ ahead 1 self.old.timed }
+        ensures begun_sound { IsSoundCore (begun _single self.new.timed.core) }
+        ensures sound { IsSoundCore self.old.timed.core }
+        ensures soon { IsSoon self.old.timed }
+        ensures number { self.new.number ≡ self.old.number }
+        ensures spare { self.new.spare ≡ self.old.spare }
+    {
+        rv_core::laws::cores_stay_sound();
+        rv_core::laws::accesses_are_paired_right();
+        self.keeps_sound();
+        self.clock += 1;
+        self.instructions += 1;
+    }
+
     /// Executes its local instructions: up to an access, a halt or the end of the interval. It answers
     /// the access that the core met there and has not begun, if it met one: its instruction is
     /// counted.

@@ -1,6 +1,12 @@
-use Rattle.std.proofs.Common.{◌≡◌, true, refl, subst, sym}
+use Rattle.std.proofs.Common.{◌≡◌, ℕ, List, Option, None, Some, IfSome, true, refl, subst, sym}
+use Rattle.elf_load.specs.MemoryImage.{MemoryImage}
+use Rattle.rv_core.specs.declared.memory_range.MemoryRange.{MemoryRange}
+use Rattle.rv_core.specs.declared.single.Single.{Single}
 use Rattle.rv_core.specs.CoreState.{CoreState}
 use Rattle.rv_core.specs.Asked.{is_idle}
+use Rattle.rv_core.specs.Executions.{at, Meets}
+use Rattle.rv_core.specs.Single.{begun}
+use Rattle.rv_core.specs.Step.{executed}
 use Rattle.rv_core.proofs.Going.{went-sound}
 use Rattle.rv_core.proofs.state.Core.run_hits.Goals as goal
 
@@ -15,3 +21,14 @@ invariant_of-self g c =
 
 pub returns-clause-sound : goal.returns-clause-sound
 returns-clause-sound g c = (invariant_of-self g c).0
+
+-- the core itself makes the access that any core at its registers makes
+meets_itself : (image : MemoryImage) (memory : MemoryRange) (registers : List ℕ) (pc : ℕ) (met : Option Single) (core : CoreState) → at core registers pc ≡ core → core.memory ≡ memory
+    → IfSome met (λ single. Meets image memory registers pc single) → IfSome met (λ single. executed image core ≡ begun single core)
+meets_itself image memory registers pc None core is same meets = tt
+meets_itself image memory registers pc (Some single) core is same meets = subst (λ (s : CoreState). executed image s ≡ begun single s) is (meets core same)
+
+pub returns-clause-met : goal.returns-clause-met
+returns-clause-met g c =
+    let came = c.run_hits-came in
+    meets_itself (g.P.Program.image c.args.program.now) c.self.inside.memory came.new.registers came.result.pc came.result.met _ refl refl came.ensures.met

@@ -7,8 +7,9 @@ use Rattle.bound_core.specs.NumberedCores.{NumberedCore}
 use Rattle.bound_core.specs.Taken.{TakesThese}
 use Rattle.bound_core.specs.TimedCore.{TimedCore}
 use Rattle.bound_core.proofs.Accesses.{most_before}
-use Rattle.bound_core.proofs.HitTurns.{came_on}
-use Rattle.bound_core.proofs.bounded.BoundCore.take_hits.Goals as goal
+use Rattle.bound_core.proofs.HitTurns.{came_on, none_of}
+use Rattle.bound_core.proofs.MetBehindHits.{comes_next, some_early}
+use Rattle.bound_core.proofs.bounded.BoundCore.go_by_hits.Goals as goal
 
 pub run_hits-came-requires-clause-room : goal.run_hits-came-requires-clause-room
 run_hits-came-requires-clause-room g c =
@@ -91,3 +92,18 @@ returns-then-may_go_on-clause-latest g c =
     let next : TimedCore = record now { core = ran.new.self; clock = ran.result.clock; instructions = inside.instructions + ran.result.count } in
     let is : now ≡ c.args.self.now.timed = ap (λ (n : NumberedCore). n.timed) c.self.view_is in
     subst (λ (before : TimedCore). latest_clock c.args.end next ≤ latest_clock c.args.end before) is came.latest
+
+pub returns-then-may_go_on-clause-met : goal.returns-then-may_go_on-clause-met
+returns-then-may_go_on-clause-met g c =
+    let inside = c.self.inside in
+    let ran = c.run_hits-came in
+    let now : TimedCore = record { core = inside.core; clock = inside.clock; instructions = inside.instructions; console = inside.console.items; pace = inside.pace } in
+    let next : TimedCore = record now { core = ran.new.self; clock = ran.result.clock; instructions = inside.instructions + ran.result.count } in
+    let none : is_none now.pace ≡ true = ap not c.if-is_none.ensures in
+    comes_next (g.P.Program.image c.args.program.now) c.args.end next ran.result.met (none_of now.pace none) ran.ensures.idle ran.ensures.line ran.ensures.early ran.ensures.lies ran.ensures.met
+
+pub returns-then-may_go_on-clause-early : goal.returns-then-may_go_on-clause-early
+returns-then-may_go_on-clause-early g c = some_early c.run_hits-came.result.met c.run_hits-came.result.clock c.args.end c.run_hits-came.ensures.early
+
+pub returns-then-may_go_on-clause-pace : goal.returns-then-may_go_on-clause-pace
+returns-then-may_go_on-clause-pace g c met = none_of c.self.inside.pace (ap not c.if-is_none.ensures)
