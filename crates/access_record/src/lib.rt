@@ -5,6 +5,7 @@
 
 mod accesses;
 mod bank_log;
+mod core_marks;
 pub mod laws;
 mod listed;
 mod marks;
