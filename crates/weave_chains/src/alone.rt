@@ -63,7 +63,9 @@ fn fire_one<X: Expand, C: Component, A: Accesses, G: Gate, T>(
 }
 
 /// All events of an access of the one core fire, each but the last of which is kept in `ended`.
-/// Answers how many they are, and how the last one ended.
+/// Answers how many they are, and how the last one ended. The first three stand one by one: no
+/// access has more of them without a mesh but a miss that writes back, and what the compiler knows
+/// of each place it need not ask.
 #[inline(always)]
 fn fire_access<X: Expand, C: Component, A: Accesses, G: Gate>(
     expand: &X,
@@ -85,18 +87,70 @@ fn fire_access<X: Expand, C: Component, A: Accesses, G: Gate>(
 {
     let entry = accesses.access(0, access);
     let count = expand.count(&entry);
+    let first = fire_one::<X, C, A, G, u8>(
+        expand, accesses, access, &entry, count, 0, ended, last, comps, tallies, before,
+    );
+    if count == 1 {
+        return (1, first);
+    }
+    ended[0] = first;
+    let second = fire_one::<X, C, A, G, u16>(
+        expand, accesses, access, &entry, count, 1, ended, last, comps, tallies, before,
+    );
+    if count == 2 {
+        return (2, second);
+    }
+    ended[1] = second;
+    let third = fire_one::<X, C, A, G, u32>(
+        expand, accesses, access, &entry, count, 2, ended, last, comps, tallies, before,
+    );
+    if count == 3 {
+        return (3, third);
+    }
+    ended[2] = third;
+    let done = fire_rest(
+        expand, accesses, access, &entry, count, ended, last, comps, tallies, before,
+    );
+    (count, done)
+}
+
+/// The events of an access of the one core fire that come behind the first three. Answers how the
+/// last one ended; the others are kept in `ended`.
+#[inline(always)]
+fn fire_rest<X: Expand, C: Component, A: Accesses, G: Gate>(
+    expand: &X,
+    accesses: &A,
+    access: u32,
+    entry: &Entry,
+    count: u16,
+    ended: &mut [Ended; MOST],
+    last: Option<Ended>,
+    comps: &mut [C],
+    tallies: &mut [Tally],
+    before: &Passing<G>,
+) -> Ended
+    requires chained { AreChained (X.pieces expand.now) (A.lists accesses.now) }
+    requires few { length (all_events (X.pieces expand.now) (one_after_other (A.lists accesses.now))) < 2 ^ 32 - 1 }
+    requires one { length (A.lists accesses.now) ≡ 1 }
+    requires there { slice_get (list_of (A.lists accesses.now) 0) access ≡ Some entry.now }
+    requires count { count ≡ length (X.pieces expand.now entry.now) }
+    requires more { 3 < count }
+    requires come { (first : List C) × (n : ℕ) × IsAlone C.serves C.floor C.stepped C.greatest (X.pieces expand.now) (A.lists accesses.now) first n (standing (A.lists accesses.now) access 3 ended.old last) comps.old tallies.old }
+    ensures fired { (first : List C) (n : ℕ) → IsAlone C.serves C.floor C.stepped C.greatest (X.pieces expand.now) (A.lists accesses.now) first n (standing (A.lists accesses.now) access 3 ended.old last) comps.old tallies.old → IsAlone C.serves C.floor C.stepped C.greatest (X.pieces expand.now) (A.lists accesses.now) first (n + (count - 3)) (standing (A.lists accesses.now) (access + 1) 0 ended.new (Some result)) comps.new tallies.new }
+    ensures tallies { length tallies.new ≡ length tallies.old }
+{
     let before_last = count - 1;
-    for place in 0..before_last {
-        let done = fire_one::<X, C, A, G, u8>(
-            expand, accesses, access, &entry, count, place, ended, last, comps, tallies, before,
+    for place in 3..before_last {
+        let done = fire_one::<X, C, A, G, u64>(
+            expand, accesses, access, entry, count, place, ended, last, comps, tallies, before,
         );
         ended[usize::from(place)] = done;
     }
-    let done = fire_one::<X, C, A, G, u16>(
+    fire_one::<X, C, A, G, i8>(
         expand,
         accesses,
         access,
-        &entry,
+        entry,
         count,
         before_last,
         ended,
@@ -104,8 +158,7 @@ fn fire_access<X: Expand, C: Component, A: Accesses, G: Gate>(
         comps,
         tallies,
         before,
-    );
-    (count, done)
+    )
 }
 
 /// All events of the one core fire. Answers how many they are.
