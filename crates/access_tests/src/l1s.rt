@@ -74,3 +74,12 @@ fn the_only_way_of_a_set_goes_to_the_line_that_comes(rt: HostRuntime) -> Result<
     loads(&rt, &mut l1, 1026, Some(0x0909_0909_0909_0909));
     Ok(())
 }
+
+#[test]
+fn a_stand_in_has_no_line(rt: HostRuntime) -> Result<(), Fail> {
+    let mut l1 = L1::stand_in(rt.alloc())?;
+    loads(&rt, &mut l1, 1024, None);
+    comes(&rt, &mut l1, 1024, Letter::E, 7);
+    loads(&rt, &mut l1, 1024, Some(0x0707_0707_0707_0707));
+    Ok(())
+}

@@ -77,6 +77,13 @@ impl L1 {
         })
     }
 
+    /// A small L1 without a line, to stand where that of a core isn't needed.
+    pub fn stand_in(alloc: Global) -> Result<Self, NoMemory>
+        ensures { IfOk result (λ l1. l1 ≡ new_l1 1 1 1 None) }
+    {
+        L1::new(alloc, 1, 1, 1, None, 1)
+    }
+
     /// Serves an access that needs nothing but this L1: a load of a line that it has, a store to
     /// one that is free to write, a fetch from a line of the instruction cache. The answer is the
     /// reply, None where the access needs more: then nothing changes. What is compiled for `T`, any

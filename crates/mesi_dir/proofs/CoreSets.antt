@@ -1,5 +1,5 @@
 -- One core more or fewer in a set, and the set's cores in order.
-use Rattle.std.proofs.Common.{◌≡◌, ◌≢◌, ℕ, zero, suc, ◌+◌, ◌*◌, ◌/◌, ◌%◌, ◌<◌, ◌≤◌, ◌^◌, Bool, true, false, cond, not, ◌&&◌, ◌||◌, eqb, List, [], ◌∷◌, length, get_or, set, Some, refl, sym, ap, ap₂, ◌∙◌, subst, arith, inl, inr, w64}
+use Rattle.std.proofs.Common.{◌≡◌, ◌≢◌, ℕ, zero, suc, ◌+◌, ◌*◌, ◌/◌, ◌%◌, ◌<◌, ◌≤◌, ◌^◌, Bool, true, false, cond, not, ◌&&◌, ◌||◌, eqb, List, [], ◌∷◌, length, get_or, set, Some, refl, sym, ap, ap₂, ◌∙◌, subst, arith, inl, inr, w64, bit_or, max}
 use Rattle.std.specs.Int.{bit_at, trailing_zeros}
 use Rattle.std.specs.List.{filter, list_any, range_with_len, slice_get}
 use Rattle.std.specs.Prelude.{nat_eq, ◌⊎◌}
@@ -9,7 +9,7 @@ use Rattle.std.proofs.lemmas.List.{get_or-replicate, get_or-set_same, get_or-set
 use Rattle.std.proofs.lemmas.List.Elements.{filter_agree}
 use Rattle.std.proofs.lemmas.List.Folds.{list_any_at, list_any_none}
 use Rattle.std.proofs.lemmas.List.FromFn.{length-range_with_len, get_or-range_with_len}
-use Rattle.std.proofs.lemmas.Nat.Bits.{bit_at-zero, bit_at_ones, bit_at-trailing_zeros}
+use Rattle.std.proofs.lemmas.Nat.Bits.{bit_at-zero, bit_at-lt, bit_at_or, bit_at_ones, bit_at-trailing_zeros}
 use Rattle.lanes.specs.Masks.{has_bit, has_some_bit}
 use Rattle.mesi_dir.specs.CoreSets.{has_core, cores_in, with_core, without_core, HasNone, HasOtherCore}
 
@@ -338,3 +338,32 @@ module _ (words : List ℕ) where
         | inl k ↦ in_earlier_word place (c / 64) (c % 64) c (omega arith) (omega arith) k zeros
         | inr k ↦ in_this_word place (c / 64) (c % 64) t c (omega arith) (omega arith) (omega (arith, e)) (omega (arith, e)) lowest.2
       ])
+
+-- ---- the cores of two sets
+
+one_of : (x y : ℕ) → x < 2 → y < 2 → eqb (max x y) 1 ≡ (eqb x 1 || eqb y 1)
+one_of zero zero l m = refl
+one_of zero (suc zero) l m = refl
+one_of zero (suc (suc y)) l m = absurd (omega arith)
+one_of (suc zero) zero l m = refl
+one_of (suc zero) (suc zero) l m = refl
+one_of (suc zero) (suc (suc y)) l m = absurd (omega arith)
+one_of (suc (suc x)) y l m = absurd (omega arith)
+
+word_or : (a b i : ℕ) → eqb (bit_at (bit_or a b) i) 1 ≡ (eqb (bit_at a i) 1 || eqb (bit_at b i) 1)
+word_or a b i = ap (λ (x : ℕ). eqb x 1) (bit_at_or a b i) ∙ one_of (bit_at a i) (bit_at b i) (bit_at-lt a i) (bit_at-lt b i)
+
+abbrev pub either : (a b : List ℕ) → List ℕ
+either a b = bit_or (get_or a 0 0) (get_or b 0 0) ∷ bit_or (get_or a 1 0) (get_or b 1 0) ∷ bit_or (get_or a 2 0) (get_or b 2 0) ∷ bit_or (get_or a 3 0) (get_or b 3 0) ∷ []
+
+words_or : (a b : List ℕ) (k i : ℕ) → length a ≤ 4 → length b ≤ 4 → eqb (bit_at (get_or (either a b) k 0) i) 1 ≡ (eqb (bit_at (get_or a k 0) i) 1 || eqb (bit_at (get_or b k 0) i) 1)
+words_or a b zero i l m = word_or (get_or a 0 0) (get_or b 0 0) i
+words_or a b (suc zero) i l m = word_or (get_or a 1 0) (get_or b 1 0) i
+words_or a b (suc (suc zero)) i l m = word_or (get_or a 2 0) (get_or b 2 0) i
+words_or a b (suc (suc (suc zero))) i l m = word_or (get_or a 3 0) (get_or b 3 0) i
+words_or a b (suc (suc (suc (suc k)))) i l m =
+    rw (get_or_past a (suc (suc (suc (suc k)))) 0 (omega (arith, l)), get_or_past b (suc (suc (suc (suc k)))) 0 (omega (arith, m)), bit_at-zero i) refl
+
+pub either_has : (a b : List ℕ) → length a ≤ 4 → length b ≤ 4 → (c : ℕ) → has_core (either a b) c ≡ (has_core a c || has_core b c)
+unfolding has_bit
+either_has a b l m c = words_or a b (c / 64) (c % 64) l m

@@ -37,7 +37,7 @@ each_member (core ∷ cores) l1s each =
 
 module _ (p : Bank) (are : AreParts p) (line : ℕ) (own : IsOwn p line) where
   -- ---- who has the line
-  known_sharer : (k : ℕ) → is_member nat_eq (row_of p.home line).sharers k ≡ true → k < length p.l1s
+  pub known_sharer : (k : ℕ) → is_member nat_eq (row_of p.home line).sharers k ≡ true → k < length p.l1s
   known_sharer k h = known p are line own k (sym (are.holds k line own) ∙ h)
 
   pub sharers_known : AreKnown (row_of p.home line).sharers p.l1s
@@ -50,7 +50,7 @@ module _ (p : Bank) (are : AreParts p) (line : ℕ) (own : IsOwn p line) where
         | inr apart ↦ known_sharer k (sym (member_without core k (row_of p.home line).sharers apart) ∙ h)
       ])
 
-  known_fetcher : (k : ℕ) → is_member nat_eq (row_of p.home line).fetchers k ≡ true → k < length p.l1s
+  pub known_fetcher : (k : ℕ) → is_member nat_eq (row_of p.home line).fetchers k ≡ true → k < length p.l1s
   unfolding has_instructions
   known_fetcher k h =
       elim (cases_lt k (length p.l1s)) as (λ _. k < length p.l1s) [

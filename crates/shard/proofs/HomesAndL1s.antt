@@ -32,11 +32,13 @@ pub mod LineFits
 pub mod ListsSeen
 pub mod MarksApart
 pub mod MetSeen
+pub mod Mixed
 pub mod NewBanks
 pub mod NewBytes
 pub mod NewPartsSeen
 pub mod Newest
 pub mod NewestStays
+pub mod OnlyTouched
 pub mod OrderParts
 pub mod OtherBank
 pub mod OthersDone

@@ -1,3 +1,4 @@
+pub mod AskedOthers
 pub mod BankAsks
 pub mod BankLoads
 pub mod BankMet
@@ -21,6 +22,8 @@ pub mod CoherentStand
 pub mod Fits
 pub mod HomesAndL1s
 pub mod Kept
+pub mod LikeAsks
+pub mod LikeMet
 pub mod L2Laws
 pub mod Reservations
 pub mod ShardSeen

@@ -13,3 +13,4 @@ pub mod Served
 pub mod ShardLayout
 pub mod SharedStep
 pub mod StandsFor
+pub mod Touched

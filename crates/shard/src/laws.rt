@@ -2,6 +2,7 @@
 ghost use Rattle.shard.specs.Laws.{CoherentStays, CoresStay, EntriesAreOfOneMachine, FetchedLinesAreThere, FetchesChangeNoLetter, FetchesTakeLettersOfOneLine, HitsAreAllowed, Inclusion, InstructionsInclusion, LastIsStamp, MarksAreReservations, NewShardsAreOneMachine, NewShardsStand, NumberStays, OthersLeaveInstructionCaches, OthersTakeOneLine, ReadAfterWrite, SetsStaySound, ShardsAnswer, ShardsStandForAMachine, SingleWriter, StillServes};
 ghost use Rattle.shard.specs.NewParts.{NewBanksAreShards, NewPartsAreShards};
 ghost use Rattle.shard.specs.PartsLaws.{OtherBank, OwnBank, PrivateIsOfOneL1, RunsAreOfShards, UntouchedIsApart};
+ghost use Rattle.shard.specs.Touched.{AskedStays, OnlyTouchedCount, TouchedAreKnown};
 
 /// An access leaves a shard its number.
 pub fn number_stays()
@@ -146,4 +147,20 @@ pub fn private_is_of_one_l1()
 /// An access commutes with whatever changes an L1 that it does not touch.
 pub fn untouched_is_apart()
     ensures { UntouchedIsApart }
+{}
+
+/// An access does the same to whatever has the parts that it touches, and leaves the other L1s as
+/// they are.
+pub fn only_touched_parts_count()
+    ensures { OnlyTouchedCount }
+{}
+
+/// What an access touches are L1s of cores of the machine.
+pub fn touched_are_known()
+    ensures { TouchedAreKnown }
+{}
+
+/// An access leaves every core what it could ask.
+pub fn asked_stays()
+    ensures { AskedStays }
 {}

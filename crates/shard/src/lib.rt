@@ -4,9 +4,13 @@
 mod alone;
 pub mod laws;
 mod new_parts;
+mod other_parts;
 mod parts;
 mod shard;
 mod shared;
+mod some_parts;
 
+pub use other_parts::others_touched;
 pub use parts::Parts;
 pub use shard::Shard;
+pub use some_parts::serve_at;

@@ -5,7 +5,8 @@ ghost use Rattle.zs_num.specs.declared.entry.Outcome.TheVariants.{Hit};
 ghost use Rattle.zs_num.specs.Request.{bank_of, line_at, line_bytes};
 ghost use Rattle.l1_cache.specs.L1State.{copy_at, newer_bytes};
 ghost use Rattle.shard.specs.Coherence.{dirty_at, fetch_holds, letter_at};
-ghost use Rattle.shard.specs.Seen.{newest_in};
+ghost use Rattle.shard.specs.PartsLaws.{AreAllParts};
+ghost use Rattle.shard.specs.Seen.{newest_in, shards_seen};
 ghost use Rattle.shard.specs.Served.{place_of, resumed, shard_after, shard_for, shard_of_line, CanServe, IsServedBy, KnowsCore};
 ghost use Rattle.shard.specs.StandsFor.{new_shards};
 
@@ -62,6 +63,23 @@ impl Parts {
         let l1s = new_l1s(alloc, machine, 1, NEAR)?;
         let lasts = vec![in alloc; 0; usize::from(machine.l2.banks)]?;
         Ok(Parts { homes, l1s, lasts })
+    }
+
+    /// The homes of these banks, in order, with the L1s of the cores, in order, and with the stamp
+    /// of the latest access of each bank. It takes no memory.
+    pub fn of(homes: Vec<Home>, l1s: Vec<L1>, lasts: Vec<Stamp>) -> Self
+        requires { AreAllParts (record { homes = homes.items; l1s = l1s.items; lasts = lasts.items }) }
+        ensures { result ≡ shards_seen (record { homes = homes.items; l1s = l1s.items; lasts = lasts.items }) }
+    {
+        Parts { homes, l1s, lasts }
+    }
+
+    /// The homes, the L1s and the last stamps, as `of` takes them.
+    pub fn take_apart(self) -> (Vec<Home>, Vec<L1>, Vec<Stamp>)
+        ensures parts { AreAllParts (record { homes = result.0.items; l1s = result.1.items; lasts = result.2.items }) }
+        ensures seen { self ≡ shards_seen (record { homes = result.0.items; l1s = result.1.items; lasts = result.2.items }) }
+    {
+        (self.homes, self.l1s, self.lasts)
     }
 
     /// Serves an access at the core's clock `start`, for a core whose latest stamp is `last`: the

@@ -4,11 +4,11 @@ ghost use Rattle.zs_num.specs.Request.{addr_of, line_bytes, line_of, width_of};
 ghost use Rattle.home.specs.HomeState.{evicted_by, row_at};
 ghost use Rattle.home.specs.Rows.{line_in};
 ghost use Rattle.l1_cache.specs.L1State.{has_instructions, is_private, no_l1, place_in_line, private_after, private_reply};
-ghost use Rattle.shard.specs.BankSteps.{bank_with, line_met, AsksFor};
+ghost use Rattle.shard.specs.BankSteps.{bank_with, line_met};
 ghost use Rattle.shard.specs.Coherence.{fetch_outcome_by, is_write, own_after};
-ghost use Rattle.shard.specs.PartsLaws.{AreParts, IsAsked};
 ghost use Rattle.shard.specs.SharedStep.{bank_after, bank_reply, fetched_from, is_dirty_here, met_at_bank, own_letter, ready_by, ready_from_home, ready_from_l2, ready_where_shared, shared_after, shared_reply, with_l1};
 ghost use Rattle.shard.specs.Seen.{no_home};
+ghost use Rattle.shard.specs.Touched.{HasTouched, HasTouchedFor, HasTouchedToFetch};
 
 mod answer;
 mod others;
@@ -26,8 +26,7 @@ use zs_num::{Outcome, Request};
 /// answer is the reply, and how the access was met.
 #[inline(always)]
 pub(crate) fn meet(home: &mut Home, l1s: &mut [L1], core: u16, request: Request) -> (u64, Outcome)
-    requires parts { AreParts (bank_with home.old l1s.old) }
-    requires asked { IsAsked (bank_with home.old l1s.old) core request }
+    requires touched { HasTouched (bank_with home.old l1s.old) core request }
     ensures after { bank_with home.new l1s.new ≡ bank_after (bank_with home.old l1s.old) core request }
     ensures reply { result.0 ≡ bank_reply (bank_with home.old l1s.old) core request }
     ensures outcome { result.1 ≡ met_at_bank (bank_with home.old l1s.old) core request }
@@ -57,8 +56,7 @@ pub(crate) fn serve_alone_at<T>(l1s: &mut [L1], core: u16, request: Request) -> 
 /// Serves one that the core's own L1 can't serve alone.
 #[inline(never)]
 fn meet_shared(home: &mut Home, l1s: &mut [L1], core: u16, request: Request) -> (u64, Outcome)
-    requires parts { AreParts (bank_with home.old l1s.old) }
-    requires asked { IsAsked (bank_with home.old l1s.old) core request }
+    requires touched { HasTouched (bank_with home.old l1s.old) core request }
     requires shared { is_private (slice_index_or l1s.old core no_l1) request ≡ false }
     ensures after { bank_with home.new l1s.new ≡ shared_after (bank_with home.old l1s.old) core request }
     ensures reply { result.0 ≡ shared_reply (bank_with home.old l1s.old) core request }
@@ -76,8 +74,7 @@ fn meet_shared(home: &mut Home, l1s: &mut [L1], core: u16, request: Request) -> 
 
 /// A line comes into a core's instruction cache.
 fn meet_fetch(home: &mut Home, l1s: &mut [L1], core: u16, line: u64) -> Outcome
-    requires parts { AreParts (bank_with home.old l1s.old) }
-    requires asks { AsksFor (bank_with home.old l1s.old) core line }
+    requires touched { HasTouchedToFetch (bank_with home.old l1s.old) core line }
     requires absent { has_instructions (slice_index_or l1s.old core no_l1) line ≡ false }
     ensures after { bank_with home.new l1s.new ≡ fetched_from core line (row_at home.old line) (bank_with home.old l1s.old) }
     ensures outcome { result ≡ fetch_outcome_by false (is_some (row_at home.old line)) (is_dirty_here (bank_with home.old l1s.old) (evicted_by home.old line)) }
@@ -121,8 +118,7 @@ fn make_ready(
     letter: Letter,
 ) -> Outcome
     requires letter { letter ≡ own_letter (bank_with home.old l1s.old) core line }
-    requires parts { AreParts (bank_with home.old l1s.old) }
-    requires asks { AsksFor (bank_with home.old l1s.old) core line }
+    requires touched { HasTouchedFor (bank_with home.old l1s.old) core line write }
     ensures after { bank_with home.new l1s.new ≡ ready_by (own_letter (bank_with home.old l1s.old) core line) write core line (bank_with home.old l1s.old) }
     ensures outcome { result ≡ line_met (bank_with home.old l1s.old) core line write }
     ensures cores { length l1s.new ≡ length l1s.old }
@@ -143,8 +139,7 @@ fn make_ready(
 
 /// The core has the line in S.
 fn meet_copy(home: &mut Home, l1s: &mut [L1], core: u16, line: u64, write: bool) -> Outcome
-    requires parts { AreParts (bank_with home.old l1s.old) }
-    requires asks { AsksFor (bank_with home.old l1s.old) core line }
+    requires touched { HasTouchedFor (bank_with home.old l1s.old) core line write }
     requires own { own_letter (bank_with home.old l1s.old) core line ≡ Letter.S }
     ensures after { bank_with home.new l1s.new ≡ ready_where_shared write core line (bank_with home.old l1s.old) }
     ensures outcome { result ≡ line_met (bank_with home.old l1s.old) core line write }
@@ -160,8 +155,7 @@ fn meet_copy(home: &mut Home, l1s: &mut [L1], core: u16, line: u64, write: bool)
 
 /// The core has the line in S, and writes it.
 fn upgrade(home: &mut Home, l1s: &mut [L1], core: u16, line: u64) -> Outcome
-    requires parts { AreParts (bank_with home.old l1s.old) }
-    requires asks { AsksFor (bank_with home.old l1s.old) core line }
+    requires touched { HasTouchedFor (bank_with home.old l1s.old) core line true }
     requires own { own_letter (bank_with home.old l1s.old) core line ≡ Letter.S }
     ensures after { bank_with home.new l1s.new ≡ ready_where_shared true core line (bank_with home.old l1s.old) }
     ensures outcome { result ≡ line_met (bank_with home.old l1s.old) core line true }
@@ -182,8 +176,7 @@ fn upgrade(home: &mut Home, l1s: &mut [L1], core: u16, line: u64) -> Outcome
 
 /// The core doesn't have the line.
 fn bring(home: &mut Home, l1s: &mut [L1], core: u16, line: u64, write: bool) -> Outcome
-    requires parts { AreParts (bank_with home.old l1s.old) }
-    requires asks { AsksFor (bank_with home.old l1s.old) core line }
+    requires touched { HasTouchedFor (bank_with home.old l1s.old) core line write }
     requires own { own_letter (bank_with home.old l1s.old) core line ≡ Letter.I }
     ensures after { bank_with home.new l1s.new ≡ ready_from_home write core line (row_at home.old line) (bank_with home.old l1s.old) }
     ensures outcome { result ≡ line_met (bank_with home.old l1s.old) core line write }
@@ -236,7 +229,7 @@ fn letter_after(write: bool, has: bool) -> Letter
 }
 
 /// Whether an access writes. A store-conditional does also where it stores nothing.
-fn is_write(request: &Request) -> bool
+pub(crate) fn is_write(request: &Request) -> bool
     ensures { result ≡ is_write request.now }
 {
     matches!(

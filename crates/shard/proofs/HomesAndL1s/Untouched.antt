@@ -223,15 +223,22 @@ module _ (other : ℕ) (change : L1State → L1State) (core : ℕ) (apart : core
       met_first ∙ outcome_same (is_fetch request) p request h,
     )
 
-pub untouched : UntouchedIsApart
+-- the same, whether or not the parts fit together, where the core's own copy is sound
+pub untouched_at : (p : Bank) (core other : ℕ) (request : Request) (change : L1State → L1State) → IsSound (copy_at (l1_of p core) (line_of request)) → is_member nat_eq (touched_by p core request) other ≡ false
+    → (bank_after (with_l1 other change p) core request ≡ with_l1 other change (bank_after p core request))
+    × (bank_reply (with_l1 other change p) core request ≡ bank_reply p core request)
+    × (met_at_bank (with_l1 other change p) core request ≡ met_at_bank p core request)
 unfolding met_at_bank touched_by
-untouched p core other request change are asked within h =
+untouched_at p core other request change sound h =
     let met = met_at_bank p core request in
     let asked_of : Bool → List ℕ = λ b. cond b [] (others_asked met (is_fetch request) (is_write request) core (row_of p.home (line_of request)) (evicted_by p.home (line_of request))) in
     let private : Bool = is_private (l1_of p core) request in
     let first = not_first core other (asked_of private) h in
     let apart : core ≢ other = λ e. first.0 (sym e) in
     elim (cases_Bool private) as (λ _. Same other change core apart p request) [
-      | inl t ↦ where_private other change core apart p request (own_sound p core request are asked) t
+      | inl t ↦ where_private other change core apart p request sound t
       | inr t ↦ where_shared_access other change core apart p request t (subst (λ (b : Bool). is_member nat_eq (asked_of b) other ≡ false) t first.1)
     ]
+
+pub untouched : UntouchedIsApart
+untouched p core other request change are asked within h = untouched_at p core other request change (own_sound p core request are asked) h

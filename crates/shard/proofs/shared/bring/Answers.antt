@@ -4,7 +4,7 @@ use Rattle.home.specs.Rows.{line_in}
 use Rattle.mesi_dir.specs.CoreSets.{cores_in}
 use Rattle.shard.specs.BankSteps.{CanBring, CanEvict, CanLeave, bank_with}
 use Rattle.shard.specs.SharedStep.{Bank, brought_home, left_by_others, ready_from_home, ready_from_l2, shared_by_others}
-use Rattle.shard.proofs.BankAsks.{can_bring_home, can_bring_left, can_bring_shared, can_evict, can_leave, sharers_there}
+use Rattle.shard.proofs.LikeAsks.{for_evict, for_leave, for_missed, for_read, for_sharers, for_written}
 use Rattle.shard.proofs.BankReady.{came_read, came_written, empty_is, row_none, row_some}
 use Rattle.shard.proofs.shared.bring.Goals as goal
 
@@ -14,30 +14,30 @@ pub leave_others-requires : goal.leave_others-requires
 leave_others-requires c =
     let there = row_some c.meet.result (row_at c.args.home.now c.args.line) c.in-Some.row c.meet.ensures.row c.in-Some.is in
     subst (λ (h : HomeState). CanLeave (bank_with h c.args.l1s.now) c.args.core c.args.line (line_in c.in-Some.row)) (sym c.in-Some.ensures.used)
-    (can_leave (bank_with c.args.home.now c.args.l1s.now) c.requires.parts c.args.core c.args.line c.requires.asks (line_in c.in-Some.row) there)
+    (for_leave (bank_with c.args.home.now c.args.l1s.now) c.args.core c.args.line c.args.write c.requires.touched (line_in c.in-Some.row) there)
 
 pub bring_own-requires : goal.bring_own-requires
 bring_own-requires c =
     let there = row_some c.meet.result (row_at c.args.home.now c.args.line) c.in-Some.row c.meet.ensures.row c.in-Some.is in
     subst (λ (b : Bank). CanBring b c.args.core c.args.line) (sym (c.leave_others.ensures.after ∙ ap (λ (h : HomeState). left_by_others c.args.core c.args.line (line_in c.in-Some.row) (bank_with h c.args.l1s.now)) c.in-Some.ensures.used))
-    (can_bring_left (bank_with c.args.home.now c.args.l1s.now) c.requires.parts c.args.core c.args.line c.requires.asks (line_in c.in-Some.row) there c.requires.own)
+    (for_written (bank_with c.args.home.now c.args.l1s.now) c.args.core c.args.line c.args.write c.requires.touched (line_in c.in-Some.row) there c.if-write.true c.requires.own)
 
 pub share_others-requires-clause-kept : goal.share_others-requires-clause-kept
 share_others-requires-clause-kept c =
     let there = row_some c.meet.result (row_at c.args.home.now c.args.line) c.in-Some.row c.meet.ensures.row c.in-Some.is in
     subst (λ (h : HomeState). KeepsLine h c.args.line) (sym c.in-Some.ensures.used)
-    (can_leave (bank_with c.args.home.now c.args.l1s.now) c.requires.parts c.args.core c.args.line c.requires.asks (line_in c.in-Some.row) there).kept
+    (for_leave (bank_with c.args.home.now c.args.l1s.now) c.args.core c.args.line c.args.write c.requires.touched (line_in c.in-Some.row) there).kept
 
 pub share_others-requires-clause-known : goal.share_others-requires-clause-known
 share_others-requires-clause-known c =
     let there = row_some c.meet.result (row_at c.args.home.now c.args.line) c.in-Some.row c.meet.ensures.row c.in-Some.is in
-    sharers_there (bank_with c.args.home.now c.args.l1s.now) c.requires.parts c.args.core c.args.line c.requires.asks (line_in c.in-Some.row) there
+    for_sharers (bank_with c.args.home.now c.args.l1s.now) c.args.core c.args.line c.args.write c.requires.touched (line_in c.in-Some.row) there
 
 pub bring_own-requires-else-write : goal.bring_own-requires-else-write
 bring_own-requires-else-write c =
     let there = row_some c.meet.result (row_at c.args.home.now c.args.line) c.in-Some.row c.meet.ensures.row c.in-Some.is in
     subst (λ (b : Bank). CanBring b c.args.core c.args.line) (sym (c.share_others.ensures.after ∙ ap (λ (h : HomeState). shared_by_others c.args.line (line_in c.in-Some.row) (bank_with h c.args.l1s.now)) c.in-Some.ensures.used))
-    (can_bring_shared (bank_with c.args.home.now c.args.l1s.now) c.requires.parts c.args.core c.args.line c.requires.asks (line_in c.in-Some.row) there c.requires.own)
+    (for_read (bank_with c.args.home.now c.args.l1s.now) c.args.core c.args.line c.args.write c.requires.touched (line_in c.in-Some.row) there c.if-write.false c.requires.own)
 
 pub returns-then-write-clause-after : goal.returns-then-write-clause-after
 returns-then-write-clause-after c =
@@ -73,9 +73,9 @@ returns-else-row-clause-after c =
 
 pub bring_home-dirty_victim-requires-clause-can : goal.bring_home-dirty_victim-requires-clause-can
 bring_home-dirty_victim-requires-clause-can c =
-    subst (λ (h : HomeState). CanEvict h c.args.l1s.now (evicted_by h c.args.line)) (sym c.in-None.ensures.same) (can_evict (bank_with c.args.home.now c.args.l1s.now) c.requires.parts c.args.line)
+    subst (λ (h : HomeState). CanEvict h c.args.l1s.now (evicted_by h c.args.line)) (sym c.in-None.ensures.same) (for_evict (bank_with c.args.home.now c.args.l1s.now) c.args.core c.args.line c.args.write c.requires.touched)
 
 pub bring_own-requires-in-None : goal.bring_own-requires-in-None
 bring_own-requires-in-None c =
     subst (λ (b : Bank). CanBring b c.args.core c.args.line) (sym (c.bring_home-dirty_victim.ensures.after ∙ ap (λ (h : HomeState). brought_home c.args.line (bank_with h c.args.l1s.now)) c.in-None.ensures.same))
-    (can_bring_home (bank_with c.args.home.now c.args.l1s.now) c.requires.parts c.args.core c.args.line c.requires.asks (row_none c.meet.result (row_at c.args.home.now c.args.line) c.meet.ensures.row c.in-None.is) c.requires.own)
+    (for_missed (bank_with c.args.home.now c.args.l1s.now) c.args.core c.args.line c.args.write c.requires.touched c.requires.own (row_none c.meet.result (row_at c.args.home.now c.args.line) c.meet.ensures.row c.in-None.is))

@@ -2,10 +2,11 @@ use Rattle.std.proofs.Common.{◌≡◌, List, is_some, false, sym, ap, ◌∙�
 use Rattle.l1_cache.specs.L1State.{L1State, is_private, no_l1}
 use Rattle.std.specs.Prelude.{slice_index_or}
 use Rattle.shard.specs.BankSteps.{bank_with}
-use Rattle.shard.specs.PartsLaws.{AreParts, IsAsked}
 use Rattle.shard.specs.Seen.{no_home}
 use Rattle.shard.specs.SharedStep.{met_at_bank, shared_after, shared_reply}
-use Rattle.shard.proofs.BankMet.{met_alone, replied_alone, reply_is, same_l1s, served_alone, shared_is}
+use Rattle.shard.specs.Touched.{HasTouched}
+use Rattle.shard.proofs.BankMet.{replied_alone, reply_is, same_l1s, served_alone, shared_is}
+use Rattle.shard.proofs.LikeMet.{like_alone}
 use Rattle.shard.proofs.shared.meet.Goals as goal
 
 pub returns-in-Some-clause-after : goal.returns-in-Some-clause-after
@@ -18,19 +19,13 @@ returns-in-Some-clause-reply c =
 
 pub returns-in-Some-clause-outcome : goal.returns-in-Some-clause-outcome
 returns-in-Some-clause-outcome c =
-    met_alone (bank_with c.args.home.now c.args.l1s.now) c.args.core c.args.request c.requires.parts c.requires.asked (sym c.serve_alone_at.ensures.private ∙ ap is_some c.in-Some.is)
+    like_alone (bank_with c.args.home.now c.args.l1s.now) c.args.core c.args.request c.requires.touched.0 c.requires.touched.1 c.requires.touched.2 c.requires.touched.3 (sym c.serve_alone_at.ensures.private ∙ ap is_some c.in-Some.is)
 
-pub meet_shared-requires-clause-parts : goal.meet_shared-requires-clause-parts
-meet_shared-requires-clause-parts c =
+pub meet_shared-requires-clause-touched : goal.meet_shared-requires-clause-touched
+meet_shared-requires-clause-touched c =
     let shared : is_private (slice_index_or c.args.l1s.now c.args.core no_l1) c.args.request ≡ false = sym c.serve_alone_at.ensures.private ∙ ap is_some c.in_default.is in
     let same = same_l1s c.args.home.now no_home c.args.l1s.now c.serve_alone_at.new.l1s c.args.core c.args.request c.serve_alone_at.ensures.after shared in
-    subst (λ (s : List L1State). AreParts (bank_with c.args.home.now s)) (sym same) c.requires.parts
-
-pub meet_shared-requires-clause-asked : goal.meet_shared-requires-clause-asked
-meet_shared-requires-clause-asked c =
-    let shared : is_private (slice_index_or c.args.l1s.now c.args.core no_l1) c.args.request ≡ false = sym c.serve_alone_at.ensures.private ∙ ap is_some c.in_default.is in
-    let same = same_l1s c.args.home.now no_home c.args.l1s.now c.serve_alone_at.new.l1s c.args.core c.args.request c.serve_alone_at.ensures.after shared in
-    subst (λ (s : List L1State). IsAsked (bank_with c.args.home.now s) c.args.core c.args.request) (sym same) c.requires.asked
+    subst (λ (s : List L1State). HasTouched (bank_with c.args.home.now s) c.args.core c.args.request) (sym same) c.requires.touched
 
 pub meet_shared-requires-clause-shared : goal.meet_shared-requires-clause-shared
 meet_shared-requires-clause-shared c =

@@ -4,17 +4,19 @@ use Rattle.flat_memory.specs.declared.reservation.Reservation.{Reservation}
 use Rattle.zs_num.specs.Request.{addr_of, line_of}
 use Rattle.home.specs.HomeState.{evicted_by, row_at}
 use Rattle.l1_cache.specs.L1State.{has_instructions, no_l1, place_in_line}
-use Rattle.shard.specs.BankSteps.{AsksFor, bank_with, line_met}
+use Rattle.shard.specs.BankSteps.{bank_with, line_met}
 use Rattle.shard.specs.Coherence.{fetch_outcome_by, is_write}
 use Rattle.shard.specs.Marks.{reply_from}
 use Rattle.shard.specs.SharedStep.{Bank, answered, bytes_of, copy_of, fetched_from, is_dirty_here, own_letter, ready_by}
-use Rattle.shard.proofs.BankMet.{asks_for, fetch_absent, fetched_after, fetched_met, fetched_reply, made_marks, made_room, made_there, read_after, read_met, read_reply}
+use Rattle.shard.specs.Touched.{HasTouchedFor, HasTouchedToFetch}
+use Rattle.shard.proofs.BankMet.{fetch_absent, fetched_after, fetched_met, fetched_reply, read_after, read_met, read_reply}
+use Rattle.shard.proofs.LikeMet.{like_fetch, like_marks, like_read, like_room, like_there}
 use Rattle.shard.proofs.shared.meet_shared.Goals as goal
 
-pub meet_fetch-requires-clause-asks : goal.meet_fetch-requires-clause-asks
-meet_fetch-requires-clause-asks c =
+pub meet_fetch-requires-clause-touched : goal.meet_fetch-requires-clause-touched
+meet_fetch-requires-clause-touched c =
     let p = bank_with c.args.home.now c.args.l1s.now in
-    subst (λ (l : ℕ). AsksFor p c.args.core l) (sym c.line-line.ensures) (asks_for p c.args.core c.args.request c.requires.parts c.requires.asked)
+    subst (λ (l : ℕ). HasTouchedToFetch p c.args.core l) (sym c.line-line.ensures) (like_fetch p c.args.core c.args.request c.requires.touched.0 c.requires.touched.1 c.requires.touched.2 c.requires.touched.3 c.requires.shared (sym c.is_fetch.ensures ∙ c.if-is_fetch.true))
 
 pub meet_fetch-requires-clause-absent : goal.meet_fetch-requires-clause-absent
 meet_fetch-requires-clause-absent c =
@@ -38,10 +40,11 @@ returns-then-is_fetch-clause-outcome c =
     ∙ (ap (λ (l : ℕ). fetch_outcome_by false (is_some (row_at p.home l)) (is_dirty_here p (evicted_by p.home l))) c.line-line.ensures
     ∙ fetched_met p c.args.core c.args.request fetch (fetch_absent (slice_index_or c.args.l1s.now c.args.core no_l1) c.args.request fetch c.requires.shared))
 
-pub make_ready-outcome-requires-clause-asks : goal.make_ready-outcome-requires-clause-asks
-make_ready-outcome-requires-clause-asks c =
+pub make_ready-outcome-requires-clause-touched : goal.make_ready-outcome-requires-clause-touched
+make_ready-outcome-requires-clause-touched c =
     let p = bank_with c.args.home.now c.args.l1s.now in
-    subst (λ (l : ℕ). AsksFor p c.args.core l) (sym c.line-line.ensures) (asks_for p c.args.core c.args.request c.requires.parts c.requires.asked)
+    subst (λ (l : ℕ). HasTouchedFor p c.args.core l c.is_write.result) (sym c.line-line.ensures)
+    (subst (λ (b : Bool). HasTouchedFor p c.args.core (line_of c.args.request) b) (sym c.is_write.ensures) (like_read p c.args.core c.args.request c.requires.touched.0 c.requires.touched.1 c.requires.touched.2 c.requires.touched.3 c.requires.shared (sym c.is_fetch.ensures ∙ c.if-is_fetch.false)))
 
 pub answer-requires-clause-marks : goal.answer-requires-clause-marks
 answer-requires-clause-marks c =
@@ -49,7 +52,7 @@ answer-requires-clause-marks c =
     let is = c.make_ready-outcome.ensures.after
     ∙ (ap (λ (l : ℕ). ready_by (own_letter p c.args.core l) c.is_write.result c.args.core l p) c.line-line.ensures
     ∙ ap (λ (b : Bool). ready_by (own_letter p c.args.core (line_of c.args.request)) b c.args.core (line_of c.args.request) p) c.is_write.ensures) in
-    subst (λ (b : Bank). c.args.core < length b.home.marks) (sym is) (made_room p c.args.core c.args.request c.requires.parts c.requires.asked (sym c.is_fetch.ensures ∙ c.if-is_fetch.false))
+    subst (λ (b : Bank). c.args.core < length b.home.marks) (sym is) (like_room p c.args.core c.args.request c.requires.touched.0 c.requires.touched.1 c.requires.touched.2 c.requires.touched.3 c.requires.shared (sym c.is_fetch.ensures ∙ c.if-is_fetch.false))
 
 pub answer-requires-clause-there : goal.answer-requires-clause-there
 answer-requires-clause-there c =
@@ -57,7 +60,7 @@ answer-requires-clause-there c =
     let is = c.make_ready-outcome.ensures.after
     ∙ (ap (λ (l : ℕ). ready_by (own_letter p c.args.core l) c.is_write.result c.args.core l p) c.line-line.ensures
     ∙ ap (λ (b : Bool). ready_by (own_letter p c.args.core (line_of c.args.request)) b c.args.core (line_of c.args.request) p) c.is_write.ensures) in
-    subst (λ (b : Bank). IsSome (copy_of b c.args.core (line_of c.args.request))) (sym is) (made_there p c.args.core c.args.request c.requires.parts c.requires.asked (sym c.is_fetch.ensures ∙ c.if-is_fetch.false))
+    subst (λ (b : Bank). IsSome (copy_of b c.args.core (line_of c.args.request))) (sym is) (like_there p c.args.core c.args.request c.requires.touched.0 c.requires.touched.1 c.requires.touched.2 c.requires.touched.3 c.requires.shared (sym c.is_fetch.ensures ∙ c.if-is_fetch.false))
 
 pub returns-clause-after : goal.returns-clause-after
 returns-clause-after c =
@@ -79,7 +82,7 @@ returns-clause-reply c =
     let made = ready_by (own_letter p c.args.core line) (is_write c.args.request) c.args.core line p in
     c.answer.ensures.reply
     ∙ (ap (λ (b : Bank). reply_from (bytes_of (copy_of b c.args.core line)) place b.home.marks c.args.core c.args.request) is
-    ∙ (ap (λ (marks : List (Option Reservation)). reply_from (bytes_of (copy_of made c.args.core line)) place marks c.args.core c.args.request) (made_marks p c.args.core c.args.request c.requires.parts c.requires.asked reads)
+    ∙ (ap (λ (marks : List (Option Reservation)). reply_from (bytes_of (copy_of made c.args.core line)) place marks c.args.core c.args.request) (like_marks p c.args.core c.args.request c.requires.touched.0 c.requires.touched.1 c.requires.touched.2 c.requires.touched.3 c.requires.shared reads)
     ∙ read_reply p c.args.core c.args.request reads))
 
 pub returns-clause-outcome : goal.returns-clause-outcome

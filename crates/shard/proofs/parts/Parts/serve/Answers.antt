@@ -1,19 +1,19 @@
 use Rattle.std.proofs.Common.{length, arith}
+use Rattle.shard.specs.BankSteps.{bank_with}
 use Rattle.shard.specs.Seen.{PartsState}
+use Rattle.shard.proofs.LikeMet.{touches_itself}
 use Rattle.shard.proofs.HomesAndL1s.PartsServe.{after_is, as_many, by_remainder, can_ask, can_meet, latest, parts_then, served_is}
 use Rattle.shard.proofs.parts.Parts.serve.Goals as goal
 
-pub meet-reply-requires-clause-parts : goal.meet-reply-requires-clause-parts
-meet-reply-requires-clause-parts c =
+pub meet-reply-requires : goal.meet-reply-requires
+meet-reply-requires c =
     let w : PartsState = record { homes = c.self.inside.homes.items; l1s = c.self.inside.l1s.items; lasts = c.self.inside.lasts.items } in
     let bank = by_remainder c.len.result (length c.self.inside.homes.items) c.line.result c.remainder-bank.result c.args.request c.remainder-bank.ensures c.line.ensures (omega arith) in
-    can_meet w c.self.invariant c.args.self.now c.self.view_is c.args.core c.args.request c.remainder-bank.result bank c.index_mut.result.now c.index_mut.ensures.value c.deref_mut.result.now c.deref_mut.ensures.value
-
-pub meet-reply-requires-clause-asked : goal.meet-reply-requires-clause-asked
-meet-reply-requires-clause-asked c =
-    let w : PartsState = record { homes = c.self.inside.homes.items; l1s = c.self.inside.l1s.items; lasts = c.self.inside.lasts.items } in
-    let bank = by_remainder c.len.result (length c.self.inside.homes.items) c.line.result c.remainder-bank.result c.args.request c.remainder-bank.ensures c.line.ensures (omega arith) in
-    can_ask w c.self.invariant c.args.self.now c.self.view_is c.args.core c.args.request c.remainder-bank.result bank c.index_mut.result.now c.index_mut.ensures.value c.deref_mut.result.now c.deref_mut.ensures.value c.requires.core c.requires.can
+    record {
+      touched = touches_itself (bank_with c.index_mut.result.now c.deref_mut.result.now) c.args.core c.args.request
+          (can_meet w c.self.invariant c.args.self.now c.self.view_is c.args.core c.args.request c.remainder-bank.result bank c.index_mut.result.now c.index_mut.ensures.value c.deref_mut.result.now c.deref_mut.ensures.value)
+          (can_ask w c.self.invariant c.args.self.now c.self.view_is c.args.core c.args.request c.remainder-bank.result bank c.index_mut.result.now c.index_mut.ensures.value c.deref_mut.result.now c.deref_mut.ensures.value c.requires.core c.requires.can);
+    }
 
 pub next_stamp-stamp-requires-clause-own_stamp : goal.next_stamp-stamp-requires-clause-own_stamp
 next_stamp-stamp-requires-clause-own_stamp c =

@@ -5,15 +5,12 @@ use Rattle.shard.specs.BankSteps.{bank_with}
 use Rattle.shard.specs.PartsLaws.{AreParts, IsAsked}
 use Rattle.shard.specs.Served.{CanServe, KnowsCore, ShardState}
 use Rattle.shard.specs.SharedStep.{bank_after, bank_reply, met_at_bank}
+use Rattle.shard.proofs.LikeMet.{touches_itself}
 use Rattle.shard.proofs.ShardSeen.{asked_of, items_left, last_is, layout_of, seen_after, seen_base, seen_cores, seen_l1i, seen_last, seen_met, seen_number, seen_reply, seen_shards, seen_size}
 use Rattle.shard.proofs.shard.Shard.serve.Goals as goal
 
-pub meet-met-requires-clause-parts : goal.meet-met-requires-clause-parts
-meet-met-requires-clause-parts c =
-    subst (λ (l1s : List L1State). AreParts (bank_with c.self.inside.home l1s)) (sym c.deref_mut.ensures.value) c.self.invariant.parts
-
-pub meet-met-requires-clause-asked : goal.meet-met-requires-clause-asked
-meet-met-requires-clause-asked c =
+pub meet-met-requires : goal.meet-met-requires
+meet-met-requires c =
     let home = c.self.inside.home in
     let p = bank_with home c.self.inside.l1s.items in
     let last = c.self.inside.last in
@@ -21,7 +18,11 @@ meet-met-requires-clause-asked c =
     let knows = subst (λ (z : ShardState). KnowsCore z c.args.core) (sym c.self.view_is) c.requires.core in
     let can = subst (λ (z : ShardState). CanServe z c.args.request) (sym c.self.view_is) c.requires.can in
     let asked = asked_of p last c.args.core c.args.request c.self.invariant.parts knows can in
-    subst (λ (l1s : List L1State). IsAsked (bank_with home l1s) c.args.core c.args.request) (sym c.deref_mut.ensures.value) asked
+    record {
+      touched = touches_itself (bank_with home c.deref_mut.result.now) c.args.core c.args.request
+          (subst (λ (l1s : List L1State). AreParts (bank_with home l1s)) (sym c.deref_mut.ensures.value) c.self.invariant.parts)
+          (subst (λ (l1s : List L1State). IsAsked (bank_with home l1s) c.args.core c.args.request) (sym c.deref_mut.ensures.value) asked);
+    }
 
 pub invariant_of-self : goal.invariant_of-self
 invariant_of-self c =
