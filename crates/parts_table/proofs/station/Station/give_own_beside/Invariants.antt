@@ -1,0 +1,8 @@
+use Rattle.parts_table.specs.Seats.{hand_of, left_in, unpublished}
+use Rattle.parts_table.proofs.station.Station.give_own_beside.Given as goal
+
+abbrev pub ghosts-give_beside : goal.ghosts-give_beside
+ghosts-give_beside a = record {
+  list = unpublished a.place.now.me.0 a._made.now.list;
+  left = left_in (hand_of a.place.now.me.0.cores a._places.now a._home.now) a.number a.place.now.me.0.holds;
+}

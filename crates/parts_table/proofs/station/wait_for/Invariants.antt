@@ -1,0 +1,8 @@
+use Rattle.std.proofs.Common.{◌≡◌}
+use Rattle.parts_table.proofs.station.wait_for.Given as goal
+
+abbrev pub invariant-loop : goal.invariant-loop
+invariant-loop g l = record {
+  table : l.place.table_id ≡ l.fn.place.table_id;
+  me : l.place.me ≡ l.fn.place.me;
+}

@@ -1,0 +1,15 @@
+pub mod World
+pub mod TurnOrder
+pub mod KeptKeys
+pub mod Views
+pub mod Rule
+pub mod Steps
+pub mod Slots
+pub mod Rest
+pub mod Tables
+pub mod Access
+pub mod MachineLaws
+pub mod NextKeys
+pub mod Places
+pub mod Seats
+pub mod Stations
