@@ -1,9 +1,12 @@
 //! Tests of accesses by several threads: two cores share the shards of a table, in one thread and
-//! in two, and the first interval of small programs by several workers, also past gates.
+//! in two, and the first interval of small programs by several workers, also past gates. And of
+//! crews, which do jobs beside who asks for them.
 #![tactic(auto)]
 
 #[cfg(test)]
 mod at_the_gate;
+#[cfg(test)]
+mod crews;
 #[cfg(test)]
 mod first_interval;
 #[cfg(test)]

@@ -1,0 +1,4 @@
+mod Calls
+mod Seated
+mod Sharing
+mod Stepping
