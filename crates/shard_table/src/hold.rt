@@ -21,8 +21,7 @@ use zs_num::{Cycle, Entry, Request, Stamp};
 /// cache lines of the host.
 pub(crate) const APART: usize = 16;
 
-/// How often a word is looked at before other threads are let run: for some microseconds, in which
-/// a core that holds the shard gives it back, if its thread runs.
+/// How often a word is looked at before other threads are let run: for less than a microsecond.
 const LOOKS: u32 = 200;
 
 impl ShardTable {
