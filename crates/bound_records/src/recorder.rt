@@ -14,7 +14,7 @@ ghost use Rattle.bound_core.specs.ShardWorld.{begun_world, restarted, shards_ser
 ghost use Rattle.bound_core.specs.TimedCore.{beside_cycles};
 ghost use Rattle.bound_records.specs.CoreRuns.{AreNumbered, IsNetOf, access_time_of};
 ghost use Rattle.bound_records.specs.Intervals.{AreKept, CanAllRun, HaveRun, IfIllegalTurn};
-ghost use Rattle.bound_records.specs.Recorders.{AreStampedInTurn, AreTakenIn, IsRecorderFor, counts_in, emptied, emptied_at, entries_of, no_log, no_records, recorded_kept, uncounted};
+ghost use Rattle.bound_records.specs.Recorders.{AreTakenIn, IsRecorderFor, counts_in, emptied, emptied_at, entries_of, no_log, no_records, recorded_kept, uncounted};
 
 use crate::TurnsFail;
 use crate::listed_turns::take_turns;
@@ -197,19 +197,27 @@ impl Recorder {
         &self.counts
     }
 
-    /// The cores of the interval's accesses, in recorded order. The cores have run one after the
-    /// other.
-    pub fn recorded_cores(&self, alloc: Global) -> Result<Vec<u16>, NoMemory>
-        requires { AreStampedInTurn (entries_of self.now) self.now }
+    /// The cores of the interval's accesses, in recorded order. These are the turns by which they
+    /// were made.
+    pub fn recorded_cores(&self, alloc: Global, turns: Turns<'_>) -> Result<Vec<u16>, NoMemory>
+        requires { AreTakenIn turns self.now }
         ensures { IfOk result (λ list. list.items ≡ map (λ e. e.core) (recorded_order (entries_of self.now))) }
     {
-        recorded_cores(alloc, &self.logs, Turns::CoreByCore, self.banks)
+        access_log::laws::stamps_rise();
+        access_log::laws::cores_decide_the_order();
+        recorded_cores(alloc, &self.logs, turns, self.banks)
     }
 
     /// The accesses that make events, in recorded order, as their records give them back. These are
-    /// the turns by which they were made.
-    pub fn recorded_accesses(&self, alloc: Global, turns: Turns<'_>) -> Result<Vec<Entry>, NoMemory>
-        requires { AreTakenIn turns self.now }
+    /// the turns by which they were made, and the cores of all accesses in recorded order.
+    pub fn recorded_accesses(
+        &self,
+        alloc: Global,
+        turns: Turns<'_>,
+        cores: &[u16],
+    ) -> Result<Vec<Entry>, NoMemory>
+        requires turns { AreTakenIn turns self.now }
+        requires cores { cores.now ≡ map (λ e. e.core) (recorded_order (entries_of self.now)) }
         ensures { IfOk result (λ list. list.items ≡ recorded_kept self.now) }
     {
         access_log::laws::stamps_rise();
@@ -219,6 +227,7 @@ impl Recorder {
             &self.logs,
             &self.records,
             turns,
+            cores,
             self.banks,
             self.begin,
             self.base,

@@ -14,6 +14,7 @@ use crate::memory::Memory;
 use crate::records::weave_recorded;
 use crate::simulation::{Simulation, delay_all};
 use crate::weaving::intervals_are_woven;
+use access_record::Turns;
 use machine_desc::Machine;
 use noc_mesh::Net;
 use rv_blocks::DecodedProgram;
@@ -148,13 +149,14 @@ fn weave_alone<R: Threads + Sync, G: Gate>(
     let Memory::Alone(recorder) = &simulation.memory else {
         unreachable!()
     };
-    let turns = recorder.recorded_cores(alloc)?;
+    let turns = recorder.recorded_cores(alloc, Turns::CoreByCore)?;
     let delays = weave_recorded(
         rt,
         alloc,
         machine,
         net,
         recorder,
+        &turns,
         &mut simulation.comps,
         &mut simulation.counters,
         workers,

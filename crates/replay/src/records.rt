@@ -1,5 +1,5 @@
 //! The weave of an interval of whose accesses one worker has kept records.
-ghost use Rattle.std.specs.Prelude.{◌≡◌, ◌*◌, ◌≤◌, ◌^◌, ◌++◌, ◌∷◌, [], All, List, IfNone, IfOk, IfSome, OnOk, false, true};
+ghost use Rattle.std.specs.Prelude.{◌≡◌, ◌*◌, ◌≤◌, ◌^◌, ◌++◌, ◌∷◌, [], All, List, map, IfNone, IfOk, IfSome, OnOk, false, true};
 ghost use Rattle.machine_desc.specs.Machine.{IsMachine};
 ghost use Rattle.component.specs.ComponentStep.{free_of};
 ghost use Rattle.component.specs.Components.{AreComponents};
@@ -33,15 +33,16 @@ use zs_num::{Entries, NoMemory};
 
 /// Fires the events of an interval's accesses by so many workers, who pass the gate before each.
 /// Moves the components on, counts the interval, and adds it to the recording. Answers the delays of
-/// the cores. `places` has the domain of each component, and `domains_are_worth` says what it says
-/// to `fire_all`. One worker fires them core by core, as far as the order of the accesses does not
-/// matter, where no events are kept.
+/// the cores. `order` has the cores of the accesses in recorded order, `places` the domain of each
+/// component, and `domains_are_worth` says what it says to `fire_all`. One worker fires them core
+/// by core, as far as the order of the accesses does not matter, where no events are kept.
 pub fn weave_recorded<R: Threads + Sync, G: Gate>(
     rt: &R,
     alloc: Global,
     machine: &Machine,
     net: &Net,
     recorder: &Recorder,
+    order: &[u16],
     comps: &mut Comps<Comp>,
     counters: &mut Counters,
     workers: u16,
@@ -56,6 +57,7 @@ pub fn weave_recorded<R: Threads + Sync, G: Gate>(
     requires net { IsNetOf machine.now net.now }
     requires recorded { IsRecorded machine.now recorder.now }
     requires turns { AreTakenIn CoreByCore recorder.now }
+    requires order { order.now ≡ map (λ e. e.core) (accesses_in recorder.now) }
     requires components { AreComponents machine.now comps.old }
     requires free { All (λ c. free_of c ≤ 2 ^ 56) comps.old }
     requires fits { FitsIn (recorded_interval machine.now comps.old recorder.now) machine.now comps.old counters.old }
@@ -85,6 +87,7 @@ pub fn weave_recorded<R: Threads + Sync, G: Gate>(
             machine,
             net,
             recorder,
+            order,
             comps,
             counters,
             workers,
@@ -167,6 +170,7 @@ fn weave_in_order<R: Threads + Sync, G: Gate>(
     machine: &Machine,
     net: &Net,
     recorder: &Recorder,
+    order: &[u16],
     comps: &mut Comps<Comp>,
     counters: &mut Counters,
     workers: u16,
@@ -180,6 +184,7 @@ fn weave_in_order<R: Threads + Sync, G: Gate>(
     requires net { IsNetOf machine.now net.now }
     requires recorded { IsRecorded machine.now recorder.now }
     requires turns { AreTakenIn CoreByCore recorder.now }
+    requires order { order.now ≡ map (λ e. e.core) (accesses_in recorder.now) }
     requires components { AreComponents machine.now comps.old }
     requires free { All (λ c. free_of c ≤ 2 ^ 56) comps.old }
     requires fits { FitsIn (recorded_interval machine.now comps.old recorder.now) machine.now comps.old counters.old }
@@ -188,7 +193,15 @@ fn weave_in_order<R: Threads + Sync, G: Gate>(
     ensures recorded { OnOk result ((intervals : List Interval) → IsRecordingOf machine.now intervals recording.old → IsRecordingOf machine.now (intervals ++ recorded_interval machine.now comps.old recorder.now ∷ []) recording.new) }
     ensures on { is_on recording.new ≡ is_on recording.old }
 {
-    let graph = recorded_events(alloc, machine, net, recorder, Turns::CoreByCore, comps)?;
+    let graph = recorded_events(
+        alloc,
+        machine,
+        net,
+        recorder,
+        Turns::CoreByCore,
+        order,
+        comps,
+    )?;
     let fired = fire_all(
         rt,
         alloc,
@@ -269,7 +282,8 @@ fn weave_on_one_list(
     ensures { IfOk result (IsTakenIn (recorded_interval machine.now comps.old recorder.now) comps.old comps.new counters.old counters.new) }
 {
     let mut off = Recording::Off;
-    let graph = recorded_events(alloc, machine, net, recorder, turns, comps)?;
+    let order = recorder.recorded_cores(alloc, turns)?;
+    let graph = recorded_events(alloc, machine, net, recorder, turns, &order, comps)?;
     let fired = weave_seq(alloc, &graph, comps)?;
     let delays = take_in(
         alloc, machine, recorder, graph, fired, comps, counters, &mut off,
@@ -277,24 +291,27 @@ fn weave_on_one_list(
     Ok(delays)
 }
 
-/// The events of an interval's accesses, which were made by these turns.
+/// The events of an interval's accesses, which were made by these turns, and whose cores are these
+/// in recorded order.
 fn recorded_events(
     alloc: Global,
     machine: &Machine,
     net: &Net,
     recorder: &Recorder,
     turns: Turns<'_>,
+    order: &[u16],
     comps: &Comps<Comp>,
 ) -> Result<Graph, NoMemory>
     requires machine { IsMachine machine.now }
     requires net { IsNetOf machine.now net.now }
     requires recorded { IsRecorded machine.now recorder.now }
     requires turns { AreTakenIn turns recorder.now }
+    requires order { order.now ≡ map (λ e. e.core) (accesses_in recorder.now) }
     requires components { AreComponents machine.now comps.now }
     requires free { All (λ c. free_of c ≤ 2 ^ 56) comps.now }
     ensures { IfOk result (AreEventsOf machine.now comps.now (accesses_in recorder.now)) }
 {
-    let list = recorder.recorded_accesses(alloc, turns)?;
+    let list = recorder.recorded_accesses(alloc, turns, order)?;
     let entries = Entries::of(list);
     let graph = events_of(alloc, machine, net, &entries, comps)?;
     Ok(graph)

@@ -12,7 +12,7 @@ use Rattle.access_record.proofs.accesses.recorded_accesses.Goals as goal
 pub walk-requires-clause-few : goal.walk-requires-clause-few
 walk-requires-clause-few c =
     let entries : List Entry = taken_of c.args.turns c.args.logs.now in
-    omega (arith, ap length c.deref.ensures.value, ap length c.in_ok-cores.ensures, length-map (recorded_order entries) (λ (e : Entry). e.core), length_recorded entries, c.requires.few)
+    omega (arith, ap length c.requires.cores, length-map (recorded_order entries) (λ (e : Entry). e.core), length_recorded entries, c.requires.few)
 
 pub walk-requires-clause-known : goal.walk-requires-clause-known
 walk-requires-clause-known c =

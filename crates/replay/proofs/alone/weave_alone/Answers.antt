@@ -8,7 +8,7 @@ use Rattle.stats.specs.Counts.{Interval}
 use Rattle.bound_core.specs.NumberedCores.{NumberedCore, timed_of}
 use Rattle.bound_records.specs.CoreRuns.{AreNumbered}
 use Rattle.access_record.specs.declared.turns.Turns.TheVariants.{CoreByCore}
-use Rattle.bound_records.specs.Recorders.{AreStampedInTurn, AreTakenIn, RecorderState, entries_of}
+use Rattle.bound_records.specs.Recorders.{AreTakenIn, RecorderState}
 use Rattle.replay.specs.declared.simulation.Simulation.{Simulation}
 use Rattle.replay.specs.Recording.{IsRecordingOf}
 use Rattle.replay.specs.Records.{accesses_in, recorded_interval}
@@ -23,8 +23,10 @@ use Rattle.replay.proofs.alone.weave_alone.Goals as goal
 pub recorded_cores-requires : goal.recorded_cores-requires
 recorded_cores-requires g c =
     let h = c.requires.recorded.5.has in
-    let same = same_recorder c.args.simulation.now.memory h.recorder c.in-Alone.recorder h.alone c.in-Alone.is in
-    subst (λ (r : RecorderState). AreStampedInTurn (entries_of r) r) same c.requires.recorded.5.in_turn.stamped
+    subst (AreTakenIn CoreByCore) (same_recorder c.args.simulation.now.memory h.recorder c.in-Alone.recorder h.alone c.in-Alone.is) c.requires.recorded.5.in_turn
+
+pub weave_recorded-requires-clause-order : goal.weave_recorded-requires-clause-order
+weave_recorded-requires-clause-order g c κs within = c.deref.ensures.value ∙ c.in_ok-turns.ensures
 
 pub weave_recorded-requires-clause-turns : goal.weave_recorded-requires-clause-turns
 weave_recorded-requires-clause-turns g c κs within =

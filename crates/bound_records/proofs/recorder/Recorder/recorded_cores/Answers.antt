@@ -3,12 +3,12 @@ use Rattle.std.specs.Prelude.{IfOk}
 use Rattle.zs_num.specs.declared.entry.Entry.{Entry}
 use Rattle.access_log.specs.History.{AreStamped}
 use Rattle.access_log.specs.RecordedOrder.{no_stamps, recorded_order}
-use Rattle.access_record.specs.BankLogs.{BankLogState, entries_in}
+use Rattle.access_record.specs.BankLogs.{BankLogState}
 use Rattle.access_record.specs.RecordedAccesses.{AreInOrder}
 use Rattle.access_record.specs.Turns.{AreTurnsOf, taken_of}
-use Rattle.access_record.specs.declared.turns.Turns.TheVariants.{CoreByCore}
-use Rattle.bound_records.specs.Recorders.{AreStampedInTurn, AreTakenIn, RecorderState, entries_of}
-use Rattle.bound_records.proofs.ByCore.{are_turns, entries_are, entries_by_log, few_logs, in_order, same_banks, stamped_logs}
+use Rattle.bound_records.specs.Recorders.{AreTakenIn, RecorderState, entries_of, taken_in}
+use Rattle.bound_records.proofs.ByCore.{are_turns, entries_by_log, few_logs, in_order, same_banks, stamped_logs, taken_logs}
+use Rattle.bound_records.proofs.InOrder.{same_recorded}
 use Rattle.bound_records.proofs.recorder.Recorder.recorded_cores.Goals as goal
 
 pub recorded_cores-requires-clause-some : goal.recorded_cores-requires-clause-some
@@ -42,8 +42,8 @@ recorded_cores-requires-clause-turns c =
     let logs = c.self.inside.logs.items in
     let records = c.self.inside.records.items in
     let counts = c.self.inside.counts.items in
-    let taken : AreTakenIn (CoreByCore) r = record { stamped = subst (λ (x : RecorderState). AreStampedInTurn (entries_of x) x) (sym c.self.view_is) c.requires; named = tt } in
-    subst (AreTurnsOf (CoreByCore)) (sym c.deref.ensures.value) (are_turns r banks logs records counts c.self.invariant refl (CoreByCore) taken)
+    let taken : AreTakenIn (c.args.turns) r = subst (AreTakenIn c.args.turns) (sym c.self.view_is) c.requires in
+    subst (AreTurnsOf (c.args.turns)) (sym c.deref.ensures.value) (are_turns r banks logs records counts c.self.invariant refl (c.args.turns) taken)
 
 pub recorded_cores-requires-clause-few : goal.recorded_cores-requires-clause-few
 recorded_cores-requires-clause-few c =
@@ -52,9 +52,9 @@ recorded_cores-requires-clause-few c =
     let logs = c.self.inside.logs.items in
     let records = c.self.inside.records.items in
     let counts = c.self.inside.counts.items in
-    let taken : AreTakenIn (CoreByCore) r = record { stamped = subst (λ (x : RecorderState). AreStampedInTurn (entries_of x) x) (sym c.self.view_is) c.requires; named = tt } in
+    let taken : AreTakenIn (c.args.turns) r = subst (AreTakenIn c.args.turns) (sym c.self.view_is) c.requires in
     let are : c.deref.result.now ≡ logs = c.deref.ensures.value in
-    subst (λ (ls : List BankLogState). length (taken_of (CoreByCore) ls) < 2 ^ 32) (sym are) (few_logs r banks logs records counts c.self.invariant refl (CoreByCore) taken)
+    subst (λ (ls : List BankLogState). length (taken_of (c.args.turns) ls) < 2 ^ 32) (sym are) (few_logs r banks logs records counts c.self.invariant refl (c.args.turns) taken)
 
 pub recorded_cores-requires-clause-stamped : goal.recorded_cores-requires-clause-stamped
 recorded_cores-requires-clause-stamped c =
@@ -63,9 +63,9 @@ recorded_cores-requires-clause-stamped c =
     let logs = c.self.inside.logs.items in
     let records = c.self.inside.records.items in
     let counts = c.self.inside.counts.items in
-    let taken : AreTakenIn (CoreByCore) r = record { stamped = subst (λ (x : RecorderState). AreStampedInTurn (entries_of x) x) (sym c.self.view_is) c.requires; named = tt } in
+    let taken : AreTakenIn (c.args.turns) r = subst (AreTakenIn c.args.turns) (sym c.self.view_is) c.requires in
     let are : c.deref.result.now ≡ logs = c.deref.ensures.value in
-    subst (λ (ls : List BankLogState). AreStamped banks (no_stamps banks (length ls)) (taken_of (CoreByCore) ls)) (sym are) (stamped_logs r banks logs records counts c.self.invariant refl (CoreByCore) taken)
+    subst (λ (ls : List BankLogState). AreStamped banks (no_stamps banks (length ls)) (taken_of (c.args.turns) ls)) (sym are) (stamped_logs r banks logs records counts c.self.invariant refl (c.args.turns) taken)
 
 pub returns : goal.returns
 returns c =
@@ -74,5 +74,12 @@ returns c =
     let logs = c.self.inside.logs.items in
     let records = c.self.inside.records.items in
     let counts = c.self.inside.counts.items in
-    let same : entries_in c.deref.result.now ≡ entries_of c.args.self.now = ap entries_in c.deref.ensures.value ∙ (sym (entries_are r banks logs records counts c.self.invariant refl) ∙ ap entries_of c.self.view_is) in
-    subst (λ (es : List Entry). IfOk c.recorded_cores.result (λ list. list.items ≡ map (λ (e : Entry). e.core) (recorded_order es))) same c.recorded_cores.ensures
+    let t : AreTakenIn c.args.turns r = subst (AreTakenIn c.args.turns) (sym c.self.view_is) c.requires in
+    let order : recorded_order (entries_of r) ≡ recorded_order (taken_in c.args.turns r) =
+    same_recorded (taken_in c.args.turns r) r.lists t.stamped.own t.stamped.known (length r.world.shards) t.stamped.some t.stamped.stamped c.stamps_rise.ensures c.cores_decide_the_order.ensures
+    in
+    let same : recorded_order (taken_of c.args.turns c.deref.result.now) ≡ recorded_order (entries_of r) =
+    ap (λ (ls : List BankLogState). recorded_order (taken_of c.args.turns ls)) c.deref.ensures.value ∙ (ap recorded_order (taken_logs r banks logs records counts c.self.invariant refl c.args.turns) ∙ sym order)
+    in
+    subst (λ (x : RecorderState). IfOk c.recorded_cores.result (λ list. list.items ≡ map (λ (e : Entry). e.core) (recorded_order (entries_of x)))) c.self.view_is
+    (subst (λ (es : List Entry). IfOk c.recorded_cores.result (λ list. list.items ≡ map (λ (e : Entry). e.core) es)) same c.recorded_cores.ensures)
