@@ -4,6 +4,7 @@
 #![tactic(auto)]
 
 mod alone;
+mod chains;
 mod firing;
 mod first_passes;
 pub mod laws;

@@ -13,6 +13,7 @@ ghost use Rattle.replay.specs.Recording.{IsRecordingOf, IsRecordingSoFar, is_on}
 ghost use Rattle.replay.specs.Records.{FitsIn, IsRecorded, IsTakenIn, accesses_in, recorded_interval};
 
 use crate::Recording;
+use crate::chains::weave_lists;
 use crate::firing::fire_all;
 use crate::first_passes::LaterPasses;
 use crate::weaving::{events_of, intervals_are_woven, woven_of};
@@ -26,7 +27,7 @@ use noc_mesh::Net;
 use stats::Counters;
 use std::alloc::Global;
 use std::thread::Threads;
-use weave_chains::{ChainBuffers, weave_chains};
+use weave_chains::ChainBuffers;
 use weave_seq::weave_seq;
 use zs_host::{Gate, OpenGate};
 use zs_num::{Entries, NoMemory};
@@ -141,7 +142,7 @@ fn weave_by_cores<G: Gate>(
     if !can_fire_by_cores(workers, recording) {
         return Ok(None);
     }
-    let found = weave_chains(alloc, net, recorder, comps, places, gate, chain_buffers)?;
+    let found = weave_lists(alloc, net, recorder, comps, places, gate, chain_buffers)?;
     let Some(woven) = found else {
         return Ok(None);
     };

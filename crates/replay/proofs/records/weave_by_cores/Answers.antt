@@ -13,20 +13,20 @@ use Rattle.replay.proofs.RecordedChains as F
 use Rattle.replay.proofs.RecordedWeave as W
 use Rattle.replay.proofs.records.weave_by_cores.Goals as goal
 
-pub weave_chains-requires-clause-chained : goal.weave_chains-requires-clause-chained
-weave_chains-requires-clause-chained g c κs within =
+pub weave_lists-requires-clause-chained : goal.weave_lists-requires-clause-chained
+weave_lists-requires-clause-chained g c κs within =
     F.chained c.args.machine.now c.args.recorder.now c.requires.recorded c.args.net.now c.requires.net
 
-pub weave_chains-requires-clause-few : goal.weave_chains-requires-clause-few
-weave_chains-requires-clause-few g c κs within =
+pub weave_lists-requires-clause-few : goal.weave_lists-requires-clause-few
+weave_lists-requires-clause-few g c κs within =
     F.few_events c.args.machine.now c.args.recorder.now c.requires.recorded c.args.net.now c.requires.net c.requires.machine c.args.comps.now c.requires.components c.requires.free c.intervals_are_woven.ensures
 
-pub weave_chains-requires-clause-fits : goal.weave_chains-requires-clause-fits
-weave_chains-requires-clause-fits g c κs within =
+pub weave_lists-requires-clause-fits : goal.weave_lists-requires-clause-fits
+weave_lists-requires-clause-fits g c κs within =
     F.graph_fits c.args.machine.now c.args.recorder.now c.requires.recorded c.args.net.now c.requires.net c.requires.machine c.args.comps.now c.requires.components c.requires.free c.intervals_are_woven.ensures
 
-pub weave_chains-requires-clause-small : goal.weave_chains-requires-clause-small
-weave_chains-requires-clause-small g c κs within =
+pub weave_lists-requires-clause-small : goal.weave_lists-requires-clause-small
+weave_lists-requires-clause-small g c κs within =
     F.small_steps c.args.machine.now c.args.recorder.now c.requires.recorded c.args.net.now c.requires.net c.requires.machine c.args.comps.now c.requires.components c.requires.free c.intervals_are_woven.ensures
 
 pub access_count-requires : goal.access_count-requires
@@ -41,27 +41,27 @@ add_counts-requires-clause-delays g c =
     let machine = c.args.machine.now in
     let r = c.args.recorder.now in
     let comps : List Comp = c.args.comps.now in
-    let wove = F.wove machine r c.requires.recorded c.args.net.now c.requires.net comps c.weave_chains.new.comps c.in_ok-found.found c.in-Some.woven c.in-Some.is c.in_ok-found.ensures.woven in
+    let wove = F.wove machine r c.requires.recorded c.args.net.now c.requires.net comps c.weave_lists.new.comps c.in_ok-found.found c.in-Some.woven c.in-Some.is c.in_ok-found.ensures.woven in
     let sound = F.whole machine r c.requires.recorded c.args.net.now c.requires.net c.requires.machine comps c.requires.components c.requires.free c.intervals_are_woven.ensures in
-    ap length (W.woven_delays machine r c.requires.recorded c.args.net.now c.requires.net comps c.weave_chains.new.comps c.in-Some.woven wove) ∙ sound.delays ∙ sym c.requires.fits.core_counts
+    ap length (W.woven_delays machine r c.requires.recorded c.args.net.now c.requires.net comps c.weave_lists.new.comps c.in-Some.woven wove) ∙ sound.delays ∙ sym c.requires.fits.core_counts
 
 pub add_counts-requires-clause-components : goal.add_counts-requires-clause-components
 add_counts-requires-clause-components g c =
     let machine = c.args.machine.now in
     let r = c.args.recorder.now in
     let comps : List Comp = c.args.comps.now in
-    let wove = F.wove machine r c.requires.recorded c.args.net.now c.requires.net comps c.weave_chains.new.comps c.in_ok-found.found c.in-Some.woven c.in-Some.is c.in_ok-found.ensures.woven in
-    ap length c.deref.ensures.value ∙ W.as_many_counts machine r c.requires.recorded c.args.net.now c.requires.net comps c.weave_chains.new.comps c.in-Some.woven wove ∙ c.requires.components.count ∙ sym c.requires.fits.comp_counts
+    let wove = F.wove machine r c.requires.recorded c.args.net.now c.requires.net comps c.weave_lists.new.comps c.in_ok-found.found c.in-Some.woven c.in-Some.is c.in_ok-found.ensures.woven in
+    ap length c.deref.ensures.value ∙ W.as_many_counts machine r c.requires.recorded c.args.net.now c.requires.net comps c.weave_lists.new.comps c.in-Some.woven wove ∙ c.requires.components.count ∙ sym c.requires.fits.comp_counts
 
 pub add_counts-requires-clause-comps : goal.add_counts-requires-clause-comps
 add_counts-requires-clause-comps g c =
     let machine = c.args.machine.now in
     let r = c.args.recorder.now in
     let comps : List Comp = c.args.comps.now in
-    let wove = F.wove machine r c.requires.recorded c.args.net.now c.requires.net comps c.weave_chains.new.comps c.in_ok-found.found c.in-Some.woven c.in-Some.is c.in_ok-found.ensures.woven in
+    let wove = F.wove machine r c.requires.recorded c.args.net.now c.requires.net comps c.weave_lists.new.comps c.in_ok-found.found c.in-Some.woven c.in-Some.is c.in_ok-found.ensures.woven in
     let sound = F.whole machine r c.requires.recorded c.args.net.now c.requires.net c.requires.machine comps c.requires.components c.requires.free c.intervals_are_woven.ensures in
-    let stay : AreComponents machine c.weave_chains.new.comps =
-    subst (AreComponents machine) (sym (W.woven_comps machine r c.requires.recorded c.args.net.now c.requires.net comps c.weave_chains.new.comps c.in-Some.woven wove)) sound.stay
+    let stay : AreComponents machine c.weave_lists.new.comps =
+    subst (AreComponents machine) (sym (W.woven_comps machine r c.requires.recorded c.args.net.now c.requires.net comps c.weave_lists.new.comps c.in-Some.woven wove)) sound.stay
     in
     stay.count ∙ sym c.requires.fits.comp_counts
 
@@ -70,13 +70,13 @@ add_counts-requires-clause-fits g c =
     let machine = c.args.machine.now in
     let r = c.args.recorder.now in
     let comps : List Comp = c.args.comps.now in
-    let wove = F.wove machine r c.requires.recorded c.args.net.now c.requires.net comps c.weave_chains.new.comps c.in_ok-found.found c.in-Some.woven c.in-Some.is c.in_ok-found.ensures.woven in
+    let wove = F.wove machine r c.requires.recorded c.args.net.now c.requires.net comps c.weave_lists.new.comps c.in_ok-found.found c.in-Some.woven c.in-Some.is c.in_ok-found.ensures.woven in
     let i : Interval = recorded_interval machine comps r in (
       i,
       W.counted_so i c.counts.result.now (counts_in r) c.from.result (length (entries_of r)) c.counts.ensures (c.from.ensures ∙ c.access_count.ensures) (W.access_counts machine r c.requires.recorded comps),
-      sym (W.woven_delays machine r c.requires.recorded c.args.net.now c.requires.net comps c.weave_chains.new.comps c.in-Some.woven wove),
-      W.events_counted_so i c.deref.result.now c.in-Some.woven.counts.items c.from-2.result c.in-Some.woven.events c.deref.ensures.value c.from-2.ensures (W.event_counts machine r c.requires.recorded c.args.net.now c.requires.net comps c.weave_chains.new.comps c.in-Some.woven wove),
-      subst (λ (after : List Comp). CountsFit (added c.args.counters.now i after)) (sym (W.woven_comps machine r c.requires.recorded c.args.net.now c.requires.net comps c.weave_chains.new.comps c.in-Some.woven wove)) c.requires.fits.fits,
+      sym (W.woven_delays machine r c.requires.recorded c.args.net.now c.requires.net comps c.weave_lists.new.comps c.in-Some.woven wove),
+      W.events_counted_so i c.deref.result.now c.in-Some.woven.counts.items c.from-2.result c.in-Some.woven.events c.deref.ensures.value c.from-2.ensures (W.event_counts machine r c.requires.recorded c.args.net.now c.requires.net comps c.weave_lists.new.comps c.in-Some.woven wove),
+      subst (λ (after : List Comp). CountsFit (added c.args.counters.now i after)) (sym (W.woven_comps machine r c.requires.recorded c.args.net.now c.requires.net comps c.weave_lists.new.comps c.in-Some.woven wove)) c.requires.fits.fits,
     )
 
 pub returns-clause-taken : goal.returns-clause-taken
@@ -84,15 +84,15 @@ returns-clause-taken g c =
     let machine = c.args.machine.now in
     let r = c.args.recorder.now in
     let comps : List Comp = c.args.comps.now in
-    let wove = F.wove machine r c.requires.recorded c.args.net.now c.requires.net comps c.weave_chains.new.comps c.in_ok-found.found c.in-Some.woven c.in-Some.is c.in_ok-found.ensures.woven in
+    let wove = F.wove machine r c.requires.recorded c.args.net.now c.requires.net comps c.weave_lists.new.comps c.in_ok-found.found c.in-Some.woven c.in-Some.is c.in_ok-found.ensures.woven in
     let i : Interval = recorded_interval machine comps r in
     record {
-      delays_are = W.woven_delays machine r c.requires.recorded c.args.net.now c.requires.net comps c.weave_chains.new.comps c.in-Some.woven wove;
-      comps_are = W.woven_comps machine r c.requires.recorded c.args.net.now c.requires.net comps c.weave_chains.new.comps c.in-Some.woven wove;
+      delays_are = W.woven_delays machine r c.requires.recorded c.args.net.now c.requires.net comps c.weave_lists.new.comps c.in-Some.woven wove;
+      comps_are = W.woven_comps machine r c.requires.recorded c.args.net.now c.requires.net comps c.weave_lists.new.comps c.in-Some.woven wove;
       counts_are = c.add_counts.ensures i
           (W.counted_so i c.counts.result.now (counts_in r) c.from.result (length (entries_of r)) c.counts.ensures (c.from.ensures ∙ c.access_count.ensures) (W.access_counts machine r c.requires.recorded comps))
-          (sym (W.woven_delays machine r c.requires.recorded c.args.net.now c.requires.net comps c.weave_chains.new.comps c.in-Some.woven wove))
-          (W.events_counted_so i c.deref.result.now c.in-Some.woven.counts.items c.from-2.result c.in-Some.woven.events c.deref.ensures.value c.from-2.ensures (W.event_counts machine r c.requires.recorded c.args.net.now c.requires.net comps c.weave_chains.new.comps c.in-Some.woven wove));
+          (sym (W.woven_delays machine r c.requires.recorded c.args.net.now c.requires.net comps c.weave_lists.new.comps c.in-Some.woven wove))
+          (W.events_counted_so i c.deref.result.now c.in-Some.woven.counts.items c.from-2.result c.in-Some.woven.events c.deref.ensures.value c.from-2.ensures (W.event_counts machine r c.requires.recorded c.args.net.now c.requires.net comps c.weave_lists.new.comps c.in-Some.woven wove));
     }
 
 pub returns-clause-off : goal.returns-clause-off
