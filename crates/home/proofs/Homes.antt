@@ -123,7 +123,7 @@ module _ {shards below base sets ways tick : ℕ} {ages tags : List ℕ} {rows :
       pub used_there : (age : ℕ) → tick < age → sets_in sets ways (set ages p age) tags lines ≡ in_set_of shards line (used line) lists
       used_there age later = sets_used h.ways_are.aged h.sets_are.0 shards line lines lines_are nobody p at age later
 
-      pub home_used : (age : ℕ) → tick < age → age < 2 ^ 62 → AreHome shards below base sets ways age (set ages p age) tags rows (Some (record { line = line; place = p }))
+      pub home_used : (age : ℕ) → tick < age → age < 2 ^ 62 → AreHome shards below base sets ways age (set ages p age) tags rows (Some (record { line = line; place = Some p }))
       home_used age later early = record {
         shards_are = h.shards_are;
         sets_are = h.sets_are;
@@ -172,7 +172,7 @@ module _ {shards below base sets ways tick : ℕ} {ages tags : List ℕ} {rows :
           ∙ sets_filled h.ways_are.aged h.sets_are.0 shards line lines lines_are nobody p some next age nobody later
 
       pub home_filled : (age : ℕ) (row : Row) → tick < age → age < 2 ^ 62 → kept_of line now ≡ None
-          → AreHome shards below base sets ways age (set ages p age) (set tags p line) (set rows p row) (Some (record { line = line; place = p }))
+          → AreHome shards below base sets ways age (set ages p age) (set tags p line) (set rows p row) (Some (record { line = line; place = Some p }))
       home_filled age row later early none = record {
         shards_are = h.shards_are;
         sets_are = h.sets_are;

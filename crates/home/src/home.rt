@@ -1,8 +1,9 @@
 //! A home.
-ghost use Rattle.std.specs.Prelude.{◌≡◌, ◌+◌, ◌<◌, ◌≤◌, ◌%◌, ◌++◌, take, drop, length, option_map, slice_index_or, slice_set, IfOk, IfSome, IfNone, IsSome, Some, None};
+ghost use Rattle.std.specs.Prelude.{◌≡◌, ◌+◌, ◌<◌, ◌≤◌, ◌%◌, ◌++◌, nat_eq, take, drop, length, option_map, slice_index_or, slice_set, IfOk, IfSome, IfNone, IsSome, Some, None};
+ghost use Rattle.std.specs.Set.{is_member};
 ghost use Rattle.zs_num.specs.Request.{line_bytes};
 ghost use Rattle.flat_memory.specs.FlatMemory.{after_write, is_reservation};
-ghost use Rattle.home.specs.HomeState.{KeepsLine, brought_in, bytes_at, dropped_in, evicted_by, fetched_in, granted_in, is_marked_by_others, looked_up_in, marked_dirty_in, owned_in, row_at, unfetched_in, with_bytes_at, line_place};
+ghost use Rattle.home.specs.HomeState.{KeepsLine, brought_in, bytes_at, dropped_in, evicted_by, fetched_in, granted_in, is_marked_by_others, looked_up_in, marked_dirty_in, owned_in, row_at, row_of, unfetched_in, with_bytes_at, line_place};
 ghost use Rattle.home.specs.NewHome.{new_home};
 ghost use Rattle.home.specs.Rows.{evicted_in, line_in};
 
@@ -100,6 +101,22 @@ impl Home {
         }
     }
 
+    /// Whether a core's L1 has a line, as the L2 has it. The calls that follow know without a search
+    /// where the line is, or that it isn't there.
+    #[inline(always)]
+    pub fn shares(&mut self, line: u64, core: u16) -> bool
+        requires { core < 256 }
+        ensures value { result ≡ is_member nat_eq (row_of self.old line).sharers core }
+        ensures same { self.new ≡ self.old }
+    {
+        let place = find(&self.ways, &self.met, self.shards, self.below, line);
+        self.met.last = Some(Last { line, place });
+        if let Some(place) = place {
+            return self.rows[place].sharers.has(core);
+        }
+        false
+    }
+
     /// What is kept of a line, where the L2 has it: the line is used then.
     #[inline(always)]
     pub fn meet(&mut self, line: u64) -> Option<Row>
@@ -116,7 +133,10 @@ impl Home {
                     self.ways.ways,
                 );
                 self.ways.ages[place] = age;
-                self.met.last = Some(Last { line, place });
+                self.met.last = Some(Last {
+                    line,
+                    place: Some(place),
+                });
                 Some(self.rows[place])
             }
             None => None,
@@ -148,7 +168,10 @@ impl Home {
         self.rows[place] = Row::nobody();
         let number = number_in_shard(self.shards, line).saturating_sub(self.below);
         remember(&mut self.met.guesses, number, entered.way);
-        self.met.last = Some(Last { line, place });
+        self.met.last = Some(Last {
+            line,
+            place: Some(place),
+        });
         if entered.evicts {
             Some((entered.had, row))
         } else {

@@ -2,11 +2,12 @@
 //! set.
 ghost use Rattle.std.specs.Prelude.{◌≡◌, ◌*◌, ◌<◌, ◌≤◌, ◌%◌, IfSome, IfNone, slice_index_or, slice_set, vec_len};
 ghost use Rattle.cache_set.specs.Places.{StandsAt, StandsNowhere, set_number_in};
+ghost use Rattle.home.specs.Layout.{IsFound, IsLast};
 
 use cache_set::{Tags, number_in_shard};
 use division::remainder;
 
-/// The way that was used last, and the ways into which lines came last.
+/// The line that was looked for last, and the ways into which lines came last.
 #[derive(Drop)]
 pub(crate) struct Met {
     /// The calls of one access go to its line one after the other.
@@ -17,35 +18,36 @@ pub(crate) struct Met {
     pub(crate) guesses: Vec<u8>,
 }
 
-/// A way that was used, and its line.
+/// A line, and the way that has it, None where the L2 doesn't have it.
 #[derive(Clone, Copy)]
 pub(crate) struct Last {
     pub(crate) line: u64,
-    pub(crate) place: usize,
+    pub(crate) place: Option<usize>,
 }
 
-/// The way that has a line, if one of the L2 has it. That of the line that was used last takes no
-/// search, and one that was guessed takes none either. So many of the bank's lines lie `below`
-/// memory.
+/// The way that has a line, if one of the L2 has it. For the line that was looked for last there is
+/// no search, and for one that was guessed there is none either. So many of the bank's lines lie
+/// `below` memory.
 #[inline(always)]
 pub(crate) fn find(ways: &Tags, met: &Met, shards: u64, below: u64, line: u64) -> Option<usize>
     requires shards { 0 < shards }
     requires sets { 0 < ways.now.sets }
     requires ages { vec_len ways.now.ages ≡ ways.now.sets * ways.now.ways }
     requires tags { vec_len ways.now.tags ≡ ways.now.sets * ways.now.ways }
-    requires last { IfSome met.now.last (λ last. StandsAt ways.now.ways ways.now.ages.items ways.now.tags.items (set_number_in shards ways.now.sets last.line) last.line last.place) }
+    requires last { IsLast shards ways.now.sets ways.now.ways ways.now.ages.items ways.now.tags.items met.now.last }
     ensures here { IfSome result (StandsAt ways.now.ways ways.now.ages.items ways.now.tags.items (set_number_in shards ways.now.sets line) line) }
     ensures none { IfNone result (StandsNowhere ways.now.ways ways.now.ages.items ways.now.tags.items (set_number_in shards ways.now.sets line) line) }
+    ensures found { IsFound shards ways.now.sets ways.now.ways ways.now.ages.items ways.now.tags.items line result }
 {
     if let Some(last) = met.last {
         if last.line == line {
-            return Some(last.place);
+            return last.place;
         }
     }
     find_elsewhere(ways, &met.guesses, shards, below, line)
 }
 
-/// The same for another line than the one that was used last.
+/// The same for another line than the one that was looked for last.
 // Out of line, so that the callers, which mostly ask for that one, are short.
 #[inline(never)]
 fn find_elsewhere(ways: &Tags, guesses: &[u8], shards: u64, below: u64, line: u64) -> Option<usize>
