@@ -1,5 +1,5 @@
 //! The ways of a core's data cache but for their bytes, and the table of those that were met last.
-ghost use Rattle.std.specs.Prelude.{◌≡◌, ◌⊎◌, ℕ, ◌+◌, ◌-◌, ◌*◌, ◌<◌, ◌≤◌, ◌^◌, false, true, length, slice_set, slice_index_or, IfSome, IfNone};
+ghost use Rattle.std.specs.Prelude.{◌≡◌, ◌⊎◌, ℕ, ◌+◌, ◌-◌, ◌*◌, ◌<◌, ◌≤◌, ◌^◌, false, true, length, slice_set, slice_index_or, IfSome, IfNone, IsTrue};
 ghost use Rattle.cache_set.specs.Places.{HasRoom, IsVictim};
 ghost use Rattle.l1_cache.specs.Layout.{AreDataWays, HasAt, HasNowhere, no_kept, set_for, to_write};
 
@@ -19,6 +19,15 @@ pub(crate) struct DataWays {
 }
 
 impl DataWays {
+    /// Whether the table has a line.
+    #[inline(always)]
+    pub(crate) fn has_near(&self, line: u64) -> bool
+        requires { AreDataWays self.now }
+        ensures { IsTrue result → (place : ℕ) × HasAt self.now line place }
+    {
+        self.near[near_index(line, self.mask)].line == line && line < u64::MAX
+    }
+
     /// The way that has a line, if the line is there.
     #[inline(always)]
     pub(crate) fn find(&self, line: u64) -> Option<usize>
@@ -102,6 +111,9 @@ impl DataWays {
         if entry.line == line && entry.writes {
             return Some(entry.place as usize);
         }
+        if entry.line == line {
+            return self.write_to(line, entry.place as usize);
+        }
         self.meet_to_write_in_set(line)
     }
 
@@ -118,6 +130,22 @@ impl DataWays {
         ensures same { self.new ≡ record self.old { kept = self.new.kept; near = self.new.near } }
     {
         let place = self.tags.find(self.shards, line)?;
+        self.write_to(line, place)
+    }
+
+    /// The same, where the way has the line.
+    #[inline(never)]
+    fn write_to(&mut self, line: u64, place: usize) -> Option<usize>
+        requires ways { AreDataWays self.old }
+        requires at { HasAt self.old line place }
+        ensures here { IfSome result (λ place. HasAt self.old line place) }
+        ensures free { IfSome result (λ place. (slice_index_or self.old.kept.items place no_kept).free ≡ true) }
+        ensures kept { IfSome result (λ place. self.new.kept.items ≡ slice_set self.old.kept.items place to_write) }
+        ensures none { IfNone result ((slice_index_or self.old.kept.items place no_kept).free ≡ false) }
+        ensures stays { IfNone result (self.new ≡ self.old) }
+        ensures ways { AreDataWays self.new }
+        ensures same { self.new ≡ record self.old { kept = self.new.kept; near = self.new.near } }
+    {
         if !self.kept[place].free {
             return None;
         }

@@ -1,5 +1,5 @@
 //! The L1 of one core.
-ghost use Rattle.std.specs.Prelude.{◌≡◌, ℕ, ◌+◌, ◌<◌, ◌≤◌, ◌^◌, false, if◌then◌else◌, is_some, length, option_map, unwrap_or, IfOk, IfSome, IfNone, IsSome, None};
+ghost use Rattle.std.specs.Prelude.{◌≡◌, ℕ, ◌+◌, ◌<◌, ◌≤◌, ◌^◌, false, if◌then◌else◌, is_some, length, option_map, unwrap_or, IfOk, IfSome, IfNone, IsSome, IsTrue, None};
 ghost use Rattle.zs_num.specs.Request.{addr_of, line_at, line_bytes, width_of};
 ghost use Rattle.zs_num.specs.declared.request.Request.TheVariants.{Load, Store, Fetch};
 ghost use Rattle.l1_cache.specs.L1State.{AreBytesOf, HasEntered, answered_in, copy_at, filled_in, given_up_in, has_instructions, instruction_filled_in, instruction_given_up_in, instruction_victim_in, is_private, kept_with_in, letter_of, new_l1, place_in_line, private_after, private_reply, set_free_in, shared_in, victim_in, written_in};
@@ -161,6 +161,14 @@ impl L1 {
         );
         self.instructions.tags.ages[place] = age;
         Some(0)
+    }
+
+    /// Whether a line is among those that are found by one comparison. Not all that are there are.
+    #[inline(always)]
+    pub fn has_near(&self, line: u64) -> bool
+        ensures { IsTrue result → IsSome (copy_at self.now line) }
+    {
+        self.ways.has_near(line)
     }
 
     /// The core's letter for a line: I where the L1 doesn't have it.

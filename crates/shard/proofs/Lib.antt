@@ -1,5 +1,6 @@
 pub mod AskedOthers
 pub mod BankAsks
+mod BankAway
 pub mod BankLoads
 pub mod BankMet
 pub mod BankOwn

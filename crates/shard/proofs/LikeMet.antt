@@ -9,7 +9,7 @@ use Rattle.zs_num.specs.declared.request.Request.{Request}
 use Rattle.cache_set.specs.declared.letter.Letter.{Letter}
 use Rattle.home.specs.HomeState.{HomeLine, HomeState, evicted_by, row_at, row_of}
 use Rattle.l1_cache.specs.L1State.{L1State, copy_at, is_private, letter_of}
-use Rattle.shard.specs.Coherence.{fetch_outcome_by, is_write, outcome_by}
+use Rattle.shard.specs.Coherence.{fetch_outcome_by, is_valid, is_write, outcome_by}
 use Rattle.shard.specs.PartsLaws.{AreParts, IsAsked}
 use Rattle.shard.specs.SharedStep.{Bank, copy_of, holders_of, is_dirty_here, is_some_core, l1_of, met_at_bank, others_asked, others_of, own_letter, ready_by, touched_by}
 use Rattle.shard.specs.Touched.{AreLike, HasTouched, HasTouchedFor, HasTouchedToFetch, IsLike, touched_for, touched_to_fetch}
@@ -110,6 +110,11 @@ module _ (q : Bank) (core : ℕ) (request : Request) (p : Bank) (are : AreParts 
   pub like_alone : is_private (l1_of q core) request ≡ true → Hit ≡ met_at_bank q core request
   like_alone private =
       sym ((only_touched_count p q core request are asked like).2 ∙ (private_is_of_one_l1 p core request are asked (sym (ap (λ (l1 : L1State). is_private l1 request) like_own) ∙ private)).0)
+
+  pub like_holds : is_member nat_eq (row_of q.home (line_of request)).sharers core ≡ is_valid (own_letter q core (line_of request))
+  like_holds =
+      ap (λ (h : HomeState). is_member nat_eq (row_of h (line_of request)).sharers core) like.home
+      ∙ (are.holds core (line_of request) asked.own ∙ sym (ap (λ (l1 : L1State). is_valid (letter_of (copy_at l1 (line_of request)))) like_own))
 
   module _ (shared : is_private (l1_of q core) request ≡ false) where
     shared_p : is_private (l1_of p core) request ≡ false

@@ -12,7 +12,7 @@ ghost use Rattle.shard.specs.StandsFor.{new_shards};
 
 use crate::alone::meet_alone;
 use crate::new_parts::{new_homes, new_l1s};
-use crate::shared::meet;
+use crate::shared::meet_from_home;
 use cache_set::Letter;
 use division::remainder;
 use elf_load::Image;
@@ -97,7 +97,7 @@ impl Parts {
         ensures shards { length self.new ≡ length self.old }
     {
         let bank = remainder(request.line(), self.homes.len() as u64) as usize;
-        let (reply, outcome) = meet(&mut self.homes[bank], &mut self.l1s, core, request);
+        let (reply, outcome) = meet_from_home(&mut self.homes[bank], &mut self.l1s, core, request);
         let stamp = next_stamp(&mut self.lasts[bank], last);
         Entry {
             core,

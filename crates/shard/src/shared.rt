@@ -1,6 +1,6 @@
 //! What an access of a core does to the home of its line and to the L1s of the cores.
-ghost use Rattle.std.specs.Prelude.{◌≡◌, ◌+◌, ◌<◌, ◌≤◌, IfSome, Some, false, true, if◌then◌else◌, is_some, length, slice_index_or};
-ghost use Rattle.zs_num.specs.Request.{addr_of, line_bytes, line_of, width_of};
+ghost use Rattle.std.specs.Prelude.{◌≡◌, ◌+◌, ◌<◌, ◌≤◌, IfSome, IsTrue, Some, false, true, if◌then◌else◌, is_some, length, slice_index_or};
+ghost use Rattle.zs_num.specs.Request.{addr_of, is_fetch, line_bytes, line_of, width_of};
 ghost use Rattle.home.specs.HomeState.{evicted_by, row_at};
 ghost use Rattle.home.specs.Rows.{line_in};
 ghost use Rattle.l1_cache.specs.L1State.{has_instructions, is_private, no_l1, place_in_line, private_after, private_reply};
@@ -35,7 +35,51 @@ pub(crate) fn meet(home: &mut Home, l1s: &mut [L1], core: u16, request: Request)
     if let Some(reply) = serve_alone_at::<Home>(l1s, core, request) {
         return (reply, Outcome::Hit);
     }
-    meet_shared(home, l1s, core, request)
+    meet_shared(home, l1s, core, request, false)
+}
+
+/// The same, for an access that mostly misses the core's own L1: where the home says that the line
+/// isn't there, it isn't looked for.
+#[inline(always)]
+pub(crate) fn meet_from_home(
+    home: &mut Home,
+    l1s: &mut [L1],
+    core: u16,
+    request: Request,
+) -> (u64, Outcome)
+    requires touched { HasTouched (bank_with home.old l1s.old) core request }
+    ensures after { bank_with home.new l1s.new ≡ bank_after (bank_with home.old l1s.old) core request }
+    ensures reply { result.0 ≡ bank_reply (bank_with home.old l1s.old) core request }
+    ensures outcome { result.1 ≡ met_at_bank (bank_with home.old l1s.old) core request }
+    ensures cores { length l1s.new ≡ length l1s.old }
+{
+    let away = is_away(home, l1s, core, &request);
+    if away {
+        return meet_shared(home, l1s, core, request, true);
+    }
+    meet(home, l1s, core, request)
+}
+
+/// Whether an access is a load or a store of a line of which the home knows that the core's L1
+/// doesn't have it. Where the L1 has it at hand, the home isn't asked.
+#[inline(always)]
+fn is_away(home: &mut Home, l1s: &[L1], core: u16, request: &Request) -> bool
+    requires touched { HasTouched (bank_with home.old l1s.now) core request.now }
+    ensures letter { IsTrue result → own_letter (bank_with no_home l1s.now) core (line_of request.now) ≡ Letter.I }
+    ensures reads { IsTrue result → is_fetch request.now ≡ false }
+    ensures same { home.new ≡ home.old }
+{
+    if !is_load_or_store(request) || l1s[usize::from(core)].has_near(request.line()) {
+        return false;
+    }
+    !home.shares(request.line(), core)
+}
+
+/// Whether an access is one that an L1 may serve alone, and no fetch.
+fn is_load_or_store(request: &Request) -> bool
+    ensures { IsTrue result → is_fetch request.now ≡ false }
+{
+    matches!(request, Request::Load { .. } | Request::Store { .. })
 }
 
 /// Serves one that the core's own L1 can serve alone, or changes nothing.
@@ -53,11 +97,19 @@ pub(crate) fn serve_alone_at<T>(l1s: &mut [L1], core: u16, request: Request) -> 
     l1s[usize::from(core)].serve_alone::<T>(request)
 }
 
-/// Serves one that the core's own L1 can't serve alone.
+/// Serves one that the core's own L1 can't serve alone. `away` says that the L1 doesn't have the
+/// line, where that is known.
 #[inline(never)]
-fn meet_shared(home: &mut Home, l1s: &mut [L1], core: u16, request: Request) -> (u64, Outcome)
+fn meet_shared(
+    home: &mut Home,
+    l1s: &mut [L1],
+    core: u16,
+    request: Request,
+    away: bool,
+) -> (u64, Outcome)
     requires touched { HasTouched (bank_with home.old l1s.old) core request }
     requires shared { is_private (slice_index_or l1s.old core no_l1) request ≡ false }
+    requires away { IsTrue away → own_letter (bank_with no_home l1s.old) core (line_of request) ≡ Letter.I }
     ensures after { bank_with home.new l1s.new ≡ shared_after (bank_with home.old l1s.old) core request }
     ensures reply { result.0 ≡ shared_reply (bank_with home.old l1s.old) core request }
     ensures outcome { result.1 ≡ met_at_bank (bank_with home.old l1s.old) core request }
@@ -67,7 +119,7 @@ fn meet_shared(home: &mut Home, l1s: &mut [L1], core: u16, request: Request) -> 
     if request.is_fetch() {
         return (0, meet_fetch(home, l1s, core, line));
     }
-    let letter = letter_met(l1s, core, &request);
+    let letter = letter_met(l1s, core, &request, away);
     let outcome = make_ready(home, l1s, core, line, is_write(&request), letter);
     (answer(home, l1s, core, request), outcome)
 }
@@ -96,12 +148,16 @@ fn meet_fetch(home: &mut Home, l1s: &mut [L1], core: u16, line: u64) -> Outcome
 }
 
 /// The core's letter for the line of an access that its L1 can't serve alone. The L1 doesn't have
-/// the line of a load then.
-fn letter_met(l1s: &[L1], core: u16, request: &Request) -> Letter
+/// the line of a load then, nor that of an access of which it is known.
+fn letter_met(l1s: &[L1], core: u16, request: &Request, away: bool) -> Letter
     requires core { core < length l1s.now }
     requires shared { is_private (slice_index_or l1s.now core no_l1) request.now ≡ false }
+    requires away { IsTrue away → own_letter (bank_with no_home l1s.now) core (line_of request.now) ≡ Letter.I }
     ensures { result ≡ own_letter (bank_with no_home l1s.now) core (line_of request.now) }
 {
+    if away {
+        return Letter::I;
+    }
     if let Request::Load { .. } = request {
         return Letter::I;
     }
