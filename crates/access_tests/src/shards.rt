@@ -338,6 +338,28 @@ fn a_shard_begins_with_the_executable(rt: HostRuntime) -> Result<(), Fail> {
 }
 
 #[test]
+fn a_line_far_from_the_executable_is_zeros_and_then_what_was_written(
+    rt: HostRuntime,
+) -> Result<(), Fail> {
+    let mut t = Tested::fresh(rt.alloc(), 1, 0, None)?;
+    t.holds(&rt, &[(0x8_003f, 0), (0x8_0040, 0), (0x8_0080, 0)]);
+    t.ask(&rt, 0, 0, Store(0x8_0040, 0x0102_0304_0506_0708));
+    // It takes the way of the line that was written, which comes home.
+    t.ask(&rt, 0, 0, Load(0x8_00c0));
+    t.holds(&rt, &[(0x8_0040, 8), (0x8_0047, 1), (0x8_0048, 0)]);
+    t.holds(
+        &rt,
+        &[
+            (0x8_003f, 0),
+            (0x8_0080, 0),
+            (0x9_0040, 0),
+            (0x1_0000, 0x73),
+        ],
+    );
+    Ok(())
+}
+
+#[test]
 fn two_lines_of_a_set_of_one_way_take_turns(rt: HostRuntime) -> Result<(), Fail> {
     plays(&rt, rt.alloc(), &TURNS, &[], &[])
 }

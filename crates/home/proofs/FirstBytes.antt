@@ -1,19 +1,20 @@
 -- The bytes of a shard's lines before the first access: a line outside memory, and one line more.
-use Rattle.std.proofs.Common.{◌≡◌, ℕ, zero, suc, ◌+◌, ◌*◌, ◌/◌, ◌%◌, ◌<◌, ◌≤◌, nat_le, true, false, List, [], ◌∷◌, ◌++◌, length, take, drop, replicate, refl, ap, sym, ◌∙◌, arith, add-one}
+use Rattle.std.proofs.Common.{◌≡◌, ℕ, zero, suc, ◌+◌, ◌*◌, ◌/◌, ◌%◌, ◌<◌, ◌≤◌, nat_le, Bool, true, false, List, [], ◌∷◌, ◌++◌, length, get_or, take, drop, replicate, refl, ap, sym, ◌∙◌, arith, add-one}
 use Rattle.std.specs.List.{flat_map, list_all, range_with_len}
 use Rattle.std.proofs.Math.Nat.{div-mul-le_self, mul-le-mul_right}
 use Rattle.std.proofs.Math.Seq.{take-append-add, take-append_seam}
-use Rattle.std.proofs.lemmas.Bool.{and_parts, leb-true, false_from_ne_true}
+use Rattle.std.proofs.lemmas.Bool.{and_parts, false≢true, leb-true, false_from_ne_true}
 use Rattle.std.proofs.lemmas.Grind.{flat_map-append}
 use Rattle.std.proofs.lemmas.Nat.{le-div}
 use Rattle.std.proofs.lemmas.List.{append-nil, ext_get_or, get_or-replicate, length-replicate, length-take-le}
+use Rattle.std.proofs.lemmas.List.Folds.{list_all_at}
 use Rattle.std.proofs.lemmas.List.FromFn.{get_or-map-range_with_len, length-map-range_with_len}
 use Rattle.elf_load.specs.declared.segment.Segment.{Segment}
 use Rattle.elf_load.specs.MemoryImage.{is_within, covers, byte_at, bytes_from}
 use Rattle.elf_load.specs.SoundImage.{is_placed}
 
 -- what lies within a range has its start and its end there
-within_parts : (start count base size : ℕ) → is_within start count base size ≡ true → (base ≤ start) × (start + count ≤ base + size)
+pub within_parts : (start count base size : ℕ) → is_within start count base size ≡ true → (base ≤ start) × (start + count ≤ base + size)
 within_parts start count base size h =
     let parts = and_parts (nat_le base start) (nat_le (start + count) (base + size)) h in
     (leb-true _ _ parts.0, leb-true _ _ parts.1)
@@ -21,6 +22,18 @@ within_parts start count base size h =
 placed_parts : (base size : ℕ) (s : Segment) → is_placed base size s ≡ true → (base ≤ s.vaddr) × (s.vaddr + s.memsz ≤ base + size)
 unfolding is_placed
 placed_parts base size s h = within_parts s.vaddr s.memsz base size (and_parts _ _ h).1
+
+-- a segment's bytes of the file lie in memory
+pub segment_ends : (base size : ℕ) (segments : List Segment) (i : ℕ) (s : Segment) → i < length segments → s ≡ get_or segments i s
+    → list_all (is_placed base size) segments ≡ true → s.vaddr + length s.bytes ≤ base + size
+unfolding is_placed
+segment_ends base size segments i s h e placed = go (is_placed base size s) refl where
+  go : (b : Bool) → is_placed base size s ≡ b → s.vaddr + length s.bytes ≤ base + size
+  go true t =
+      let inside = placed_parts base size s t in
+      let short : length s.bytes ≤ s.memsz = leb-true (length s.bytes) s.memsz (and_parts _ _ (and_parts _ _ t).0).1 in
+      omega (arith, inside.1, short)
+  go false t = absurd (false≢true (sym (list_all_at (is_placed base size) segments i s h (ap (is_placed base size) (sym e) ∙ t)) ∙ placed))
 
 -- no segment has an address outside memory
 byte_outside : (base size addr : ℕ) (segments : List Segment) → list_all (is_placed base size) segments ≡ true → (base ≤ addr → base + size ≤ addr) → byte_at segments addr ≡ 0

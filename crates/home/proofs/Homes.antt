@@ -2,7 +2,7 @@
 use Rattle.std.proofs.Common.{◌≡◌, ℕ, ◌-◌, ◌*◌, ◌^◌, ◌<◌, ◌≤◌, List, [], length, get_or, set, map, Option, Some, None, sym, ap, ◌∙◌, subst, arith}
 use Rattle.std.specs.Option.{option_map_or}
 use Rattle.std.specs.Prelude.{IsSome}
-use Rattle.std.proofs.lemmas.List.{get_or-map, get_or-set_same, length-map, length-set, map-set, set-get_or, set-set}
+use Rattle.std.proofs.lemmas.List.{get_or_default, get_or-map, get_or-set_same, length-map, length-set, map-set, set-get_or, set-set}
 use Rattle.cache_set.specs.Lines.{in_set_of, set_number, set_of}
 use Rattle.cache_set.specs.Pieces.{IsSameOrder, sets_in}
 use Rattle.cache_set.specs.Places.{IsNext, StandsAt, StandsNowhere, set_number_in}
@@ -15,6 +15,7 @@ use Rattle.home.specs.declared.row.Row.{Row}
 use Rattle.flat_memory.specs.declared.reservation.Reservation.{Reservation}
 use Rattle.home.specs.HomeState.{HomeLine, HomeState, nobody}
 use Rattle.home.specs.Layout.{AreHome}
+use Rattle.home.specs.RowChunks.{IsChanged, unheld}
 use Rattle.home.specs.Rows.{line_in}
 
 -- a home with these sets
@@ -148,6 +149,12 @@ module _ {shards below base sets ways tick : ℕ} {ages tags : List ℕ} {rows :
           ∙ sym (ap (λ (o : Option HomeLine). in_set_of shards line (λ _. option_map_or (λ row. changed line (change row) now) o now) lists)
           (row_standing ∙ ap (λ (x : HomeLine). Some x) (line_there was there)))))
 
+      pub row_changed_there : (change : HomeLine → HomeLine) {then : List Row} → IsChanged change rows p then
+          → sets_in sets ways ages tags (map line_in then) ≡ in_set_of shards line (λ found. option_map_or (λ row. changed line (change row) found) (kept_of line found) found) lists
+      row_changed_there change is =
+          ap (λ (r : List Row). sets_in sets ways ages tags (map line_in r)) is.put
+          ∙ row_changed (get_or rows p unheld) is.row change (get_or_default rows p unheld (get_or rows p unheld) p_within) is.changed
+
     -- ---- the way that the next line takes
     module _ (p : ℕ) (next : IsNext ways ages (set_number_in shards sets line) p) where
       some : 1 ≤ ways
@@ -205,3 +212,9 @@ module _ {shards below base sets ways tick : ℕ} {ages tags : List ℕ} {rows :
       ap (λ (r : List Row). sets_in sets ways ages tags (map line_in r)) (sym (set-set rows p mid to))
       ∙ (row_changed (with_row h p mid) line p at mid to second (sym (get_or-set_same rows p mid mid (p_within h line p at))) two
       ∙ ap (in_row shards line second) (row_changed h line p at was mid first there one))
+
+  pub row_changed_twice_there : (first second : HomeLine → HomeLine) (mid : Row) {then : List Row} → line_in mid ≡ first (line_in (get_or rows p unheld))
+      → IsChanged (λ row. second (first row)) rows p then → sets_in sets ways ages tags (map line_in then) ≡ in_row shards line second (in_row shards line first (lists h))
+  row_changed_twice_there first second mid {then} one is =
+      ap (λ (r : List Row). sets_in sets ways ages tags (map line_in r)) is.put
+      ∙ row_changed_twice (get_or rows p unheld) mid is.row first second (get_or_default rows p unheld (get_or rows p unheld) (p_within h line p at)) one (is.changed ∙ ap second (sym one))

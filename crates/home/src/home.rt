@@ -1,5 +1,5 @@
 //! A home.
-ghost use Rattle.std.specs.Prelude.{◌≡◌, ◌+◌, ◌<◌, ◌≤◌, ◌%◌, ◌++◌, nat_eq, take, drop, length, option_map, slice_index_or, slice_set, IfOk, IfSome, IfNone, IsSome, Some, None};
+ghost use Rattle.std.specs.Prelude.{◌≡◌, ◌+◌, ◌*◌, ◌<◌, ◌≤◌, ◌%◌, ◌++◌, nat_eq, take, drop, length, option_map, slice_index_or, slice_set, IfOk, IfSome, IfNone, IsSome, Some, None};
 ghost use Rattle.std.specs.Set.{is_member};
 ghost use Rattle.zs_num.specs.Request.{line_bytes};
 ghost use Rattle.flat_memory.specs.FlatMemory.{after_write, is_reservation};
@@ -7,10 +7,12 @@ ghost use Rattle.home.specs.HomeState.{KeepsLine, brought_in, bytes_at, dropped_
 ghost use Rattle.home.specs.NewHome.{new_home};
 ghost use Rattle.home.specs.Rows.{evicted_in, line_in};
 
-use crate::filling::first_bytes;
+use crate::filling::{count_lines, first_bytes};
+use crate::lines::Lines;
 use crate::marks::Marks;
 use crate::met::{Last, Met, find, remember};
 use crate::row::Row;
+use crate::rows::Rows;
 use cache_set::{Tags, next_age, number_in_shard};
 use elf_load::Image;
 use mesi_dir::CoreSet;
@@ -31,9 +33,9 @@ pub struct Home {
     base: u64,
     size: u64,
     ways: Tags,
-    rows: Vec<Row>,
+    rows: Rows,
     met: Met,
-    bytes: Vec<u8>,
+    bytes: Lines,
     marks: Marks,
 }
 
@@ -43,9 +45,9 @@ impl Model for Home {
 
     ghost Value = { HomeState };
 
-    ghost view = { λ h. home_view h.number h.shards h.base h.size h.ways.sets h.ways.ways h.ways.ages.items h.ways.tags.items h.rows.items h.bytes.items h.marks };
+    ghost view = { λ h. home_view h.number h.shards h.base h.size h.ways.sets h.ways.ways h.ways.ages.items h.ways.tags.items h.rows h.bytes h.marks };
 
-    ghost invariant = { λ h. AreHome h.shards h.below h.base h.ways.sets h.ways.ways h.ways.tick h.ways.ages.items h.ways.tags.items h.rows.items h.met.last };
+    ghost invariant = { λ h. AreHome h.shards h.below h.base h.ways.sets h.ways.ways h.ways.tick h.ways.ages.items h.ways.tags.items h.rows h.met.last };
 }
 
 impl Home {
@@ -69,9 +71,9 @@ impl Home {
         ensures { IfOk result (λ home. home ≡ new_home number shards sets ways cores image.now) }
     {
         let tags = Tags::new(alloc, sets, ways)?;
-        let rows = vec![in alloc; Row::nobody(); sets as usize * usize::from(ways)]?;
+        let rows = Rows::new(alloc, sets as usize * usize::from(ways))?;
         let bytes = first_bytes(alloc, u64::from(shards), number, image)?;
-        let guesses = vec![in alloc; 0; bytes.len() / LINE as usize]?;
+        let guesses = vec![in alloc; 0; count_lines(shards, image) as usize]?;
         Ok(Home {
             number,
             shards: u64::from(shards),
@@ -96,7 +98,7 @@ impl Home {
         ensures { option_map line_in result ≡ row_at self.now line }
     {
         match find(&self.ways, &self.met, self.shards, self.below, line) {
-            Some(place) => Some(self.rows[place]),
+            Some(place) => Some(*self.rows.at(place)),
             None => None,
         }
     }
@@ -112,7 +114,7 @@ impl Home {
         let place = find(&self.ways, &self.met, self.shards, self.below, line);
         self.met.last = Some(Last { line, place });
         if let Some(place) = place {
-            return self.rows[place].sharers.has(core);
+            return self.rows.at(place).sharers.has(core);
         }
         false
     }
@@ -137,7 +139,7 @@ impl Home {
                     line,
                     place: Some(place),
                 });
-                Some(self.rows[place])
+                Some(*self.rows.at(place))
             }
             None => None,
         }
@@ -149,7 +151,7 @@ impl Home {
         ensures { option_map evicted_in result ≡ evicted_by self.now line }
     {
         match self.ways.victim(self.shards, line) {
-            Some(place) => Some((self.ways.tags[place], self.rows[place])),
+            Some(place) => Some((self.ways.tags[place], *self.rows.at(place))),
             None => None,
         }
     }
@@ -164,8 +166,8 @@ impl Home {
     {
         let entered = self.ways.enter(self.shards, line);
         let place = entered.place;
-        let row = self.rows[place];
-        self.rows[place] = Row::nobody();
+        let row = *self.rows.at(place);
+        self.rows.put(place, Row::nobody());
         let number = number_in_shard(self.shards, line).saturating_sub(self.below);
         remember(&mut self.met.guesses, number, entered.way);
         self.met.last = Some(Last {
@@ -184,7 +186,7 @@ impl Home {
         ensures { self.new ≡ marked_dirty_in line self.old }
     {
         if let Some(place) = find(&self.ways, &self.met, self.shards, self.below, line) {
-            self.rows[place].mark_dirty();
+            self.rows.mark_dirty(place);
         }
     }
 
@@ -194,7 +196,7 @@ impl Home {
         ensures { self.new ≡ granted_in line core alone self.old }
     {
         if let Some(place) = find(&self.ways, &self.met, self.shards, self.below, line) {
-            self.rows[place].add_sharer(core, alone);
+            self.rows.add_sharer(place, core, alone);
         }
     }
 
@@ -204,7 +206,7 @@ impl Home {
         ensures { self.new ≡ owned_in line core self.old }
     {
         if let Some(place) = find(&self.ways, &self.met, self.shards, self.below, line) {
-            self.rows[place].own(core);
+            self.rows.own(place, core);
         }
     }
 
@@ -214,7 +216,7 @@ impl Home {
         ensures { self.new ≡ dropped_in line core self.old }
     {
         if let Some(place) = find(&self.ways, &self.met, self.shards, self.below, line) {
-            self.rows[place].remove_sharer(core);
+            self.rows.remove_sharer(place, core);
         }
     }
 
@@ -224,7 +226,7 @@ impl Home {
         ensures { self.new ≡ dropped_in line core (marked_dirty_in line self.old) }
     {
         if let Some(place) = find(&self.ways, &self.met, self.shards, self.below, line) {
-            self.rows[place].remove_writer(core);
+            self.rows.remove_writer(place, core);
         }
     }
 
@@ -234,7 +236,7 @@ impl Home {
         ensures { self.new ≡ fetched_in line core self.old }
     {
         if let Some(place) = find(&self.ways, &self.met, self.shards, self.below, line) {
-            self.rows[place].add_fetcher(core);
+            self.rows.add_fetcher(place, core);
         }
     }
 
@@ -244,7 +246,7 @@ impl Home {
         ensures { self.new ≡ unfetched_in line core self.old }
     {
         if let Some(place) = find(&self.ways, &self.met, self.shards, self.below, line) {
-            self.rows[place].remove_fetcher(core);
+            self.rows.remove_fetcher(place, core);
         }
     }
 
@@ -253,8 +255,8 @@ impl Home {
         requires { KeepsLine self.now line }
         ensures { result.now ≡ bytes_at self.now line }
     {
-        let place = self.line_place(line);
-        &self.bytes[place..place + LINE as usize]
+        let number = self.line_number(line);
+        self.bytes.line(number)
     }
 
     /// The bytes of a line come home.
@@ -263,18 +265,18 @@ impl Home {
         requires whole { length from.now ≡ line_bytes }
         ensures { self.new ≡ with_bytes_at line from.now self.old }
     {
-        let place = self.line_place(line);
-        put_line(&mut self.bytes, place, from);
+        let number = self.line_number(line);
+        self.bytes.write(number, from);
     }
 
-    /// Where a line's bytes stand.
+    /// The number of a line among those that are kept.
     #[inline(always)]
-    fn line_place(&self, line: u64) -> usize
+    fn line_number(&self, line: u64) -> usize
         requires { KeepsLine self.now line }
-        ensures place { result ≡ line_place self.now line }
+        ensures place { line_bytes * result ≡ line_place self.now line }
         ensures kept { KeepsLine self.now line }
     {
-        (number_in_shard(self.shards, line).saturating_sub(self.below) * LINE) as usize
+        number_in_shard(self.shards, line).saturating_sub(self.below) as usize
     }
 
     /// Whether a core has marked these bytes by a load-reserved.
@@ -316,20 +318,4 @@ impl Home {
     {
         self.marks.others_on(core, line)
     }
-}
-
-/// Puts the bytes of a line at a place.
-fn put_line(bytes: &mut [u8], place: usize, from: &[u8])
-    requires within { place + length from.now ≤ length bytes.old }
-    ensures value { bytes.new ≡ take place bytes.old ++ (from.now ++ drop (place + length from.now) bytes.old) }
-    ensures length { length bytes.new ≡ length bytes.old }
-{
-    copy_line(&mut bytes[place..place + from.len()], from);
-}
-
-fn copy_line(line: &mut [u8], from: &[u8])
-    requires { length line.old ≡ length from.now }
-    ensures { line.new ≡ from.now }
-{
-    line.copy_from_slice(from);
 }

@@ -4,9 +4,11 @@
 
 mod filling;
 mod home;
+mod lines;
 mod marks;
 mod met;
 mod row;
+mod rows;
 
 pub use home::Home;
 pub use row::Row;

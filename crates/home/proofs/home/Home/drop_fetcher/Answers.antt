@@ -1,7 +1,7 @@
 use Rattle.std.proofs.Common.{sym, ap}
 use Rattle.mesi_dir.specs.CoreSets.{without_core}
 use Rattle.home.specs.HomeState.{HomeLine, unfetched_in}
-use Rattle.home.proofs.Homes.{home_with, row_changed, same_nowhere}
+use Rattle.home.proofs.Homes.{home_with, row_changed_there, same_nowhere}
 use Rattle.home.proofs.home.Home.drop_fetcher.Goals as goal
 
 pub returns-in-Some : goal.returns-in-Some
@@ -9,13 +9,13 @@ unfolding unfetched_in
 returns-in-Some c =
     let s = c.self.inside in
     rw (← c.self.view_is)
-    (ap (home_with s.number s.shards s.base s.size s.ways.ways s.bytes.items s.marks)
-    (row_changed c.self.invariant c.args.line c.in-Some.place c.in-Some.ensures.here c.index_mut.result.now c.remove_fetcher.new.self (λ (row : HomeLine). record row { fetchers = without_core c.args.core row.fetchers }) c.index_mut.ensures.value c.remove_fetcher.ensures))
+    (ap (home_with s.number s.shards s.base s.size s.ways.ways s.bytes s.marks)
+    (row_changed_there c.self.invariant c.args.line c.in-Some.place c.in-Some.ensures.here (λ (row : HomeLine). record row { fetchers = without_core c.args.core row.fetchers }) c.remove_fetcher.ensures.changed))
 
 pub returns-in_default : goal.returns-in_default
 unfolding unfetched_in
 returns-in_default c =
     let s = c.self.inside in
     rw (← c.self.view_is)
-    (ap (home_with s.number s.shards s.base s.size s.ways.ways s.bytes.items s.marks)
+    (ap (home_with s.number s.shards s.base s.size s.ways.ways s.bytes s.marks)
     (sym (same_nowhere c.self.invariant c.args.line c.in_default.ensures.none (λ (row : HomeLine). record row { fetchers = without_core c.args.core row.fetchers }))))

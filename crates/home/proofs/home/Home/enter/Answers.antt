@@ -17,7 +17,7 @@ invariant_of-self c =
     let now = home_anew was age put.anew put.order put.long put.later put.early in
     let absent = rw (← c.self.view_is) at c.requires in
     let none = ap (λ (sets : List (List (ℕ × HomeLine))). kept_of c.args.line (set_of c.self.inside.shards c.args.line sets)) (lists_anew was age put.anew put.order put.long put.later put.early) ∙ absent in
-    rw (c.enter-entered.ensures.sets, c.enter-entered.ensures.ways, put.ages_are, put.tags_are)
+    rw (c.enter-entered.ensures.sets, c.enter-entered.ensures.ways, put.ages_are, put.tags_are, c.put.ensures.value)
     (home_filled now c.args.line c.enter-entered.result.place put.next age c.nobody.result (age_later was age put.anew put.order put.long put.later put.early) put.early none)
 
 pub returns-clause-after : goal.returns-clause-after
@@ -28,8 +28,8 @@ returns-clause-after c =
     let age = c.enter-entered.new.self.tick in
     let now = home_anew was age put.anew put.order put.long put.later put.early in
     let s = c.self.inside in
-    rw (← c.self.view_is, c.enter-entered.ensures.sets, c.enter-entered.ensures.ways, put.ages_are, put.tags_are)
-    (ap (home_with s.number s.shards s.base s.size s.ways.ways s.bytes.items s.marks)
+    rw (← c.self.view_is, c.enter-entered.ensures.sets, c.enter-entered.ensures.ways, put.ages_are, put.tags_are, c.put.ensures.value)
+    (ap (home_with s.number s.shards s.base s.size s.ways.ways s.bytes s.marks)
     (filled_there now c.args.line c.enter-entered.result.place put.next age c.nobody.result (age_later was age put.anew put.order put.long put.later put.early) c.nobody.ensures
     ∙ ap (in_set_of s.shards c.args.line (filled s.ways.ways c.args.line nobody)) (lists_anew was age put.anew put.order put.long put.later put.early)))
 
@@ -41,12 +41,12 @@ returns-clause-evicted c =
     let age = c.enter-entered.new.self.tick in
     let p = c.enter-entered.result.place in
     let s = c.self.inside in
-    let row = c.index-row.result.now in
+    let row = c.at-row.result.now in
     let now = home_anew was age put.anew put.order put.long put.later put.early in
     let same = ap (λ (sets : List (List (ℕ × HomeLine))). victim_of s.ways.ways (set_of s.shards c.args.line sets)) (sym (lists_anew was age put.anew put.order put.long put.later put.early)) in
     rw (← c.self.view_is)
     (elim c.if-entered.branch [
       | then-entered w ↦ ap (option_map evicted_in) w.result-is
-          ∙ sym (same ∙ (the_victim now c.args.line p put.next row c.index-row.ensures (entered.live_was w.if-entered.true) ∙ ap (λ (tag : ℕ). Some (tag, line_in row)) c.enter-entered.ensures.had))
+          ∙ sym (same ∙ (the_victim now c.args.line p put.next row c.at-row.ensures (entered.live_was w.if-entered.true) ∙ ap (λ (tag : ℕ). Some (tag, line_in row)) c.enter-entered.ensures.had))
       | else-entered w ↦ ap (option_map evicted_in) w.result-is ∙ sym (same ∙ no_victim now c.args.line p put.next (entered.free_was w.if-entered.false))
     ])

@@ -1,7 +1,7 @@
 use Rattle.std.proofs.Common.{sym, ap}
 use Rattle.mesi_dir.specs.CoreSets.{with_core}
 use Rattle.home.specs.HomeState.{HomeLine, fetched_in}
-use Rattle.home.proofs.Homes.{home_with, row_changed, same_nowhere}
+use Rattle.home.proofs.Homes.{home_with, row_changed_there, same_nowhere}
 use Rattle.home.proofs.home.Home.fetch.Goals as goal
 
 pub returns-in-Some : goal.returns-in-Some
@@ -9,13 +9,13 @@ unfolding fetched_in
 returns-in-Some c =
     let s = c.self.inside in
     rw (← c.self.view_is)
-    (ap (home_with s.number s.shards s.base s.size s.ways.ways s.bytes.items s.marks)
-    (row_changed c.self.invariant c.args.line c.in-Some.place c.in-Some.ensures.here c.index_mut.result.now c.add_fetcher.new.self (λ (row : HomeLine). record row { fetchers = with_core c.args.core row.fetchers }) c.index_mut.ensures.value c.add_fetcher.ensures))
+    (ap (home_with s.number s.shards s.base s.size s.ways.ways s.bytes s.marks)
+    (row_changed_there c.self.invariant c.args.line c.in-Some.place c.in-Some.ensures.here (λ (row : HomeLine). record row { fetchers = with_core c.args.core row.fetchers }) c.add_fetcher.ensures.changed))
 
 pub returns-in_default : goal.returns-in_default
 unfolding fetched_in
 returns-in_default c =
     let s = c.self.inside in
     rw (← c.self.view_is)
-    (ap (home_with s.number s.shards s.base s.size s.ways.ways s.bytes.items s.marks)
+    (ap (home_with s.number s.shards s.base s.size s.ways.ways s.bytes s.marks)
     (sym (same_nowhere c.self.invariant c.args.line c.in_default.ensures.none (λ (row : HomeLine). record row { fetchers = with_core c.args.core row.fetchers }))))

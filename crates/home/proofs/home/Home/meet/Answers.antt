@@ -29,7 +29,7 @@ returns-in-Some-clause-row c =
     let p = c.in-Some.place in
     let at = c.in-Some.ensures.here in
     rw (← c.self.view_is)
-    (sym (row_standing was c.args.line p at ∙ ap (λ (row : HomeLine). Some row) (line_there was c.args.line p at c.index.result.now c.index.ensures)))
+    (sym (row_standing was c.args.line p at ∙ ap (λ (row : HomeLine). Some row) (line_there was c.args.line p at c.at.result.now c.at.ensures)))
 
 pub returns-in-Some-clause-used : goal.returns-in-Some-clause-used
 unfolding looked_up_in
@@ -44,7 +44,7 @@ returns-in-Some-clause-used c =
     let early = c.next_age-age.ensures.early in
     let s = c.self.inside in
     rw (← c.self.view_is)
-    (ap (home_with s.number s.shards s.base s.size s.ways.ways s.bytes.items s.marks)
+    (ap (home_with s.number s.shards s.base s.size s.ways.ways s.bytes s.marks)
     (used_there (home_anew was age anew order all later early) c.args.line p (stands_anew was age anew order all later early c.args.line p c.in-Some.ensures.here) age (age_later was age anew order all later early)
     ∙ ap (in_set_of s.shards c.args.line (used c.args.line)) (lists_anew was age anew order all later early)))
 

@@ -10,7 +10,7 @@ returns-in-Some c =
     let p = c.in-Some.place in
     let at = c.in-Some.ensures.here in
     rw (← c.self.view_is)
-    (sym (row_standing was c.args.line p at ∙ ap (λ (row : HomeLine). Some row) (line_there was c.args.line p at c.index.result.now c.index.ensures)))
+    (sym (row_standing was c.args.line p at ∙ ap (λ (row : HomeLine). Some row) (line_there was c.args.line p at c.at.result.now c.at.ensures)))
 
 pub returns-in-None : goal.returns-in-None
 unfolding row_at

@@ -14,11 +14,11 @@ returns-in-Some-clause-value c =
     let p = c.in-Some.place in
     let s = c.self.inside in
     let at = subst (λ (o : Option ℕ). IfSome o (StandsAt s.ways.ways s.ways.ages.items s.ways.tags.items (set_number_in s.shards s.ways.sets c.args.line) c.args.line)) c.in-Some.is c.find-place.ensures.here in
-    let row = c.index.result.now in
+    let row = c.at.result.now in
     rw (← c.self.view_is)
     (c.has.ensures ∙ sym (is_member-cores_in row.sharers.words c.args.core)
     ∙ ap (λ (found : Option HomeLine). is_member nat_eq (unwrap_or found nobody).sharers c.args.core)
-    (sym (row_standing was c.args.line p at ∙ ap (λ (row : HomeLine). Some row) (line_there was c.args.line p at row c.index.ensures))))
+    (sym (row_standing was c.args.line p at ∙ ap (λ (row : HomeLine). Some row) (line_there was c.args.line p at row c.at.ensures))))
 
 pub returns-clause-value : goal.returns-clause-value
 unfolding row_at

@@ -1,7 +1,6 @@
 use Rattle.std.proofs.Common.{ℕ, Some, sym, ap, ◌∙◌, arith}
-use Rattle.std.specs.Prelude.{option_map}
 use Rattle.cache_set.proofs.Rows.{value_at}
-use Rattle.home.specs.Rows.{evicted_in, line_in}
+use Rattle.home.specs.Rows.{line_in}
 use Rattle.home.proofs.Homes.{next_within, no_victim, the_victim}
 use Rattle.home.proofs.home.Home.victim.Goals as goal
 
@@ -19,4 +18,4 @@ returns-in-Some c =
     let below = next_within was c.args.line p full.next in
     let tag = value_at tags p c.index.result.now (omega (arith, below, was.ways_are.aged.tags_are)) c.index.ensures in
     rw (← c.self.view_is)
-    (sym (the_victim was c.args.line p full.next c.index-in-Some.result.now c.index-in-Some.ensures full.live ∙ ap (λ (t : ℕ). Some (t, line_in c.index-in-Some.result.now)) tag))
+    (sym (the_victim was c.args.line p full.next c.at.result.now c.at.ensures full.live ∙ ap (λ (t : ℕ). Some (t, line_in c.at.result.now)) tag))
