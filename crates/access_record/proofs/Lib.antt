@@ -5,3 +5,4 @@ mod Ordered
 mod Steps
 mod Walk
 mod InTurns
+pub mod Restamps

@@ -5,4 +5,5 @@ pub mod Outcomes
 pub mod RecordLogs
 pub mod RecordedAccesses
 pub mod Records
+pub mod Restamped
 pub mod Turns

@@ -3,8 +3,10 @@ ghost use Rattle.std.specs.Prelude.{◌≡◌, ◌+◌, ◌<◌, ◌≤◌, ◌%
 ghost use Rattle.zs_num.specs.declared.entry.Entry.{Entry};
 ghost use Rattle.access_log.specs.History.{bank_of_entry};
 ghost use Rattle.access_record.specs.BankLogs.{byte_of, makes_events};
+ghost use Rattle.access_record.specs.Restamped.{AreSameButStamps, list_like, lists_of_stamped};
 
 use crate::listed::Listed;
+use crate::stamped::Stamped;
 use std::alloc::Global;
 use std::marker::Model;
 use zs_num::{Entry, NoMemory, Outcome};
@@ -17,7 +19,7 @@ pub struct BankLog {
     banks: u16,
     room: u32,
     bytes: Vec<u8>,
-    list: Listed,
+    pub(crate) list: Listed,
 }
 
 impl Model for BankLog {
@@ -130,6 +132,14 @@ impl BankLog {
         ensures few { length self.now.entries < 2 ^ 32 }
     {
         bank_of_byte(self.bytes[place as usize])
+    }
+
+    /// The accesses get their stamps, which only contracts see.
+    pub fn restamp(&mut self, stamped: &Stamped)
+        requires { AreSameButStamps self.old.entries (list_like (lists_of_stamped stamped.now) self.old.entries) }
+        ensures { self.new ≡ record self.old { entries = list_like (lists_of_stamped stamped.now) self.old.entries } }
+    {
+        self.list = self.list.restamped(stamped);
     }
 
     /// Forgets the accesses, and keeps the room.

@@ -13,6 +13,7 @@ mod order;
 mod outcomes;
 mod record;
 mod record_log;
+mod stamped;
 mod turns;
 
 pub use accesses::recorded_accesses;
@@ -20,4 +21,5 @@ pub use bank_log::{BankLog, bank_of_byte, has_events};
 pub use order::recorded_cores;
 pub use record::Record;
 pub use record_log::RecordLog;
+pub use stamped::Stamped;
 pub use turns::Turns;

@@ -1,8 +1,11 @@
 //! Entries that only contracts see.
 ghost use Rattle.std.specs.Prelude.{◌≡◌, ◌++◌, ◌∷◌, [], List};
 ghost use Rattle.zs_num.specs.declared.entry.Entry.{Entry};
+ghost use Rattle.access_record.specs.Laws.{beyond_hits};
+ghost use Rattle.access_record.specs.Restamped.{list_like, lists_of_stamped};
 ghost use base.Fml.{ftrue};
 
+use crate::stamped::Stamped;
 use std::marker::Model;
 use zs_num::Entry;
 
@@ -28,6 +31,20 @@ impl Listed {
     #[inline(always)]
     pub(crate) fn then(&self, _entry: &Entry) -> Listed
         ensures { result.entries ≡ self.now.entries ++ _entry.now ∷ [] }
+    {
+        Listed {}
+    }
+
+    /// The entries with their stamps.
+    pub(crate) fn restamped(&self, _stamped: &Stamped) -> Listed
+        ensures { result.entries ≡ list_like (lists_of_stamped _stamped.now) self.now.entries }
+    {
+        Listed {}
+    }
+
+    /// Those of another list that are of accesses that make events.
+    pub(crate) fn beyond_hits_of(&self, _list: &Listed) -> Listed
+        ensures { result.entries ≡ beyond_hits _list.now.entries }
     {
         Listed {}
     }

@@ -1,7 +1,9 @@
 //! The log of a core's accesses that make events, a record for each.
 ghost use Rattle.std.specs.Prelude.{◌≡◌, ◌<◌, ◌≤◌, ◌^◌, ◌++◌, ◌∷◌, [], Some, length, map, slice_get, IfOk};
-ghost use Rattle.access_record.specs.Laws.{kept_of};
+ghost use Rattle.access_record.specs.Laws.{beyond_hits, kept_of};
+ghost use Rattle.access_record.specs.Restamped.{AreSameButStamps};
 
+use crate::bank_log::BankLog;
 use crate::listed::Listed;
 use crate::record::Record;
 use std::alloc::Global;
@@ -83,6 +85,14 @@ impl RecordLog {
         let record = Record::of(entry, self.begin, self.base);
         self.records.push_reserved(record);
         self.list = self.list.then(entry);
+    }
+
+    /// The accesses get the stamps that they have in the log of their core.
+    pub fn restamp(&mut self, log: &BankLog)
+        requires { AreSameButStamps self.old.entries (beyond_hits log.now.entries) }
+        ensures { self.new ≡ record self.old { entries = beyond_hits log.now.entries } }
+    {
+        self.list = self.list.beyond_hits_of(&log.list);
     }
 
     /// How many accesses there are.

@@ -55,6 +55,29 @@ impl PartsPort {
         }
     }
 
+    /// The caches and the memory, and the stamp of each core's latest access.
+    pub fn take_apart(self) -> (Parts, Vec<Stamp>)
+        ensures world { self.world ≡ record { shards = result.0; stamps = result.1.items } }
+        ensures shards { AreShardsOf (length result.1.items) result.0 (base_in result.0) (size_in result.0) }
+        ensures some { 0 < length result.1.items }
+    {
+        (self.parts, self.stamps)
+    }
+
+    /// A port of these, as `take_apart` gives them: of the caches and the memory, and of the stamp
+    /// of each core's latest access. The first core is chosen.
+    pub fn of(parts: Parts, stamps: Vec<Stamp>) -> Self
+        requires some { 0 < length stamps.items }
+        requires shards { AreShardsOf (length stamps.items) parts (base_in parts) (size_in parts) }
+        ensures { result ≡ record { world = record { shards = parts; stamps = stamps.items }; core = 0 } }
+    {
+        PartsPort {
+            parts,
+            stamps,
+            core: 0,
+        }
+    }
+
     /// As before the first access of an interval: all last stamps are 0.
     pub fn restart(&mut self)
         ensures world { self.new.world ≡ begun_world (length self.old.world.stamps) (map restarted self.old.world.shards) }

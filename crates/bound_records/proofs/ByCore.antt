@@ -48,14 +48,14 @@ pub record IsTaken (r : RecorderState) (core : ℕ) (log : BankLogState) (kept :
   pub log_is : log ≡ record { core = core; banks = length r.world.shards; entries = []; room = r.room }
   pub kept_is : kept ≡ record { core = core; begin = r.begin; base = r.base; entries = []; room = r.room }
 
-log_eq : (log : BankLogState) (core banks room : ℕ) (entries : List Entry) → log.core ≡ core → log.banks ≡ banks → log.entries ≡ entries → log.room ≡ room → log ≡ record { core = core; banks = banks; entries = entries; room = room }
+pub log_eq : (log : BankLogState) (core banks room : ℕ) (entries : List Entry) → log.core ≡ core → log.banks ≡ banks → log.entries ≡ entries → log.room ≡ room → log ≡ record { core = core; banks = banks; entries = entries; room = room }
 log_eq log core banks room entries a b c d =
     ap (λ (n : ℕ). let x : BankLogState = record { core = n; banks = log.banks; entries = log.entries; room = log.room } in x) a
     ∙ (ap (λ (n : ℕ). let x : BankLogState = record { core = core; banks = n; entries = log.entries; room = log.room } in x) b
     ∙ (ap (λ (es : List Entry). let x : BankLogState = record { core = core; banks = banks; entries = es; room = log.room } in x) c
     ∙ ap (λ (n : ℕ). let x : BankLogState = record { core = core; banks = banks; entries = entries; room = n } in x) d))
 
-kept_eq : (kept : RecordLogState) (core begin base room : ℕ) (entries : List Entry) → kept.core ≡ core → kept.begin ≡ begin → kept.base ≡ base → kept.entries ≡ entries → kept.room ≡ room → kept ≡ record { core = core; begin = begin; base = base; entries = entries; room = room }
+pub kept_eq : (kept : RecordLogState) (core begin base room : ℕ) (entries : List Entry) → kept.core ≡ core → kept.begin ≡ begin → kept.base ≡ base → kept.entries ≡ entries → kept.room ≡ room → kept ≡ record { core = core; begin = begin; base = base; entries = entries; room = room }
 kept_eq kept core begin base room entries a b c d e =
     ap (λ (n : ℕ). let x : RecordLogState = record { core = n; begin = kept.begin; base = kept.base; entries = kept.entries; room = kept.room } in x) a
     ∙ (ap (λ (n : ℕ). let x : RecordLogState = record { core = core; begin = n; base = kept.base; entries = kept.entries; room = kept.room } in x) b
@@ -329,7 +329,7 @@ put_in r core logs log entries world now lists own same =
 
 -- ---- before the first interval
 
-range_at : {X : Type 0} (f : ℕ → X) (n i : ℕ) (x : X) → slice_get (map f (range_with_len 0 n)) i ≡ Some x → x ≡ f i
+pub range_at : {X : Type 0} (f : ℕ → X) (n i : ℕ) (x : X) → slice_get (map f (range_with_len 0 n)) i ≡ Some x → x ≡ f i
 range_at f n i x here =
     let within = slice_get_within (map f (range_with_len 0 n)) i x here in
     let long = length-map-range_with_len f 0 n in

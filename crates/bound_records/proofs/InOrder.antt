@@ -15,7 +15,7 @@ use Rattle.bound_records.proofs.Lists.{has_at, own_list, set_cases}
 
 -- ---- of a core
 
-of_core_own : (core : ℕ) (es : List Entry) → All (λ e. e.core ≡ core) (of_core core es)
+pub of_core_own : (core : ℕ) (es : List Entry) → All (λ e. e.core ≡ core) (of_core core es)
 of_core_own core [] = All-nil (λ (e : Entry). e.core ≡ core)
 of_core_own core (e ∷ es) =
     elim (cases_eq e.core core) as (λ _. All (λ (x : Entry). x.core ≡ core) (of_core core (e ∷ es))) [

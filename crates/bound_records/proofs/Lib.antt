@@ -1,14 +1,16 @@
-mod ByCore
+pub mod TakenApart
+pub mod ByCore
+pub mod ByHistory
 mod ByTurns
 mod Chained
 mod Counted
-mod InOrder
+pub mod InOrder
 mod KeptInTurns
-mod Lists
+pub mod Lists
 mod OneMore
-mod SameCores
+pub mod SameCores
 mod TakingHits
 mod TakingTurns
-mod Turns
+pub mod Turns
 mod TurnsBegin
-mod Whole
+pub mod Whole

@@ -27,7 +27,7 @@ use Rattle.bound_core.proofs.Accesses.{clock_within, latest_small}
 use Rattle.bound_core.proofs.Instructions.{ran_later}
 use Rattle.bound_core.proofs.Lists.{set_same}
 use Rattle.bound_core.proofs.Reaching.{by_turns}
-use Rattle.bound_records.specs.CoreRuns.{CanRunInterval, HasRecorded, HasRunToEnd, IsNetOf, access_time_of, first_port}
+use Rattle.bound_records.specs.CoreRuns.{CanRunInterval, HasRecorded, HasRunToEnd, IsNear, IsNetOf, access_time_of, first_port}
 use Rattle.bound_records.specs.Recorders.{GivesRecorded, RecordPortState, RecorderState, core_room}
 
 -- ---- an access
@@ -122,12 +122,6 @@ module _ {Port : Type 0} (outer : Port → (start : ℕ) → Request → Entry �
     few = run.few;
     logged = run.logged;
   }
-
--- no access begins earlier, and all are in this memory
-pub record IsNear (low base size : ℕ) (e : Entry) : Type 0 where
-  pub from : low ≤ e.start
-  pub first : base / 64 ≤ line_of e.request
-  pub near : line_of e.request ≤ (base + size) / 64
 
 line_from : (base addr : ℕ) → base ≤ addr → base / 64 ≤ addr / 64
 line_from base addr from = omega (arith, from)

@@ -9,11 +9,7 @@ use Rattle.elf_load.specs.MemoryImage.{MemoryImage}
 use Rattle.machine_desc.specs.declared.machine.Machine.{Machine}
 use Rattle.machine_desc.specs.Machine.{IsMachine}
 use Rattle.shard.specs.Served.{ShardState}
-use Rattle.access_log.specs.History.{AreStamped, of_core}
-use Rattle.access_log.specs.Laws.{CoresDecideTheOrder, RecordedOrderKeepsTheStamps, StampsRise}
-use Rattle.access_log.specs.RecordedOrder.{no_stamps, recorded_order}
 use Rattle.access_record.specs.Records.{IsInReach}
-use Rattle.access_record.specs.Turns.{in_turns}
 use Rattle.bound_core.specs.History.{IsHistory, after_history, begun_over_shards}
 use Rattle.bound_core.specs.HistoryLaws.{PhasesAreHistories}
 use Rattle.bound_core.specs.Reaching.{Reaches}
@@ -26,11 +22,12 @@ use Rattle.bound_core.proofs.Reaching.{whole_phase}
 use Rattle.bound_core.proofs.Restarted.{no_last}
 use Rattle.bound_core.proofs.ShardPorts.{own_memory}
 use Rattle.bound_records.specs.CoreRuns.{AreNumbered, HaveRecorded, access_time_of, phase_in}
-use Rattle.bound_records.specs.Intervals.{HaveRun, begun}
+use Rattle.bound_records.specs.Intervals.{begun}
 use Rattle.bound_records.specs.Recorders.{IsRecorderFor, RecorderState, core_room, entries_of}
 use Rattle.bound_records.specs.Turns.{phase_by}
-use Rattle.bound_records.proofs.InOrder.{HaveOwn, all_of_all, own_cores, own_recorded, same_cores, same_recorded, taken_again}
-use Rattle.bound_records.proofs.Lists.{all_empty, length_recorded, own_list}
+use Rattle.bound_records.proofs.ByHistory.{HasHistory, few_in_all}
+use Rattle.bound_records.proofs.InOrder.{HaveOwn}
+use Rattle.bound_records.proofs.Lists.{all_empty, own_list}
 use Rattle.bound_records.proofs.SameCores.{all_timed}
 
 -- ---- an interval begins
@@ -43,14 +40,6 @@ pub none_there : (n i : ℕ) (es : List Entry) → slice_get (replicate n []) i 
 none_there zero i es here = absurd (cc)
 none_there (suc n) zero es here = cc
 none_there (suc n) (suc i) es here = none_there n i es here
-
-more_cores : (n more room : ℕ) → n * room ≤ (n + more) * room
-more_cores n more room = omega arith
-
-pub few_in_all : (cores room : ℕ) → cores ≤ 256 → cores * room ≤ 256 * room
-few_in_all cores room few =
-    let all : cores + (256 - cores) ≡ 256 = omega (arith, few) in
-    subst (λ (n : ℕ). cores * room ≤ n * room) all (more_cores cores (256 - cores) room)
 
 -- All cores have come to the end of an interval, by these turns, which took the accesses in this order.
 pub record HaveEnded (machine : Machine) (image : MemoryImage) (end : ℕ) (turns : List ℕ) (taken : List Entry) (cores after : List NumberedCore) (r s : RecorderState) : Type 0 where
@@ -111,7 +100,7 @@ module _ (machine : Machine) (begin : ℕ) (cores : List NumberedCore) (before r
       ap (λ (w : ShardWorld). let x : BoundState ShardWorld = record { cores = timed_of cores; world = w; entries = entries_of r } in x) world_is
       ∙ ap (λ (es : List Entry). let x : BoundState ShardWorld = record { cores = timed_of cores; world = begun_world (length (timed_of cores)) shards; entries = es } in x) (all_empty r.lists none_at_first)
 
-  module _ (image : MemoryImage) (end : ℕ) (turns : List ℕ) (taken : List Entry) (after : List NumberedCore) (s : RecorderState) (is : IsMachine machine) (some : 0 < length before.world.shards) (h : HaveEnded machine image end turns taken cores after r s) where
+  module _ (image : MemoryImage) (end : ℕ) (turns : List ℕ) (taken : List Entry) (after : List NumberedCore) (s : RecorderState) (some : 0 < length before.world.shards) (h : HaveEnded machine image end turns taken cores after r s) where
     phase : bound_phase shards_serve (access_time_of machine) image end turns (begun_over_shards (timed_of cores) shards) ≡ Ok (phase_by after s taken)
     phase =
         ap (bound_phase shards_serve (access_time_of machine) image end turns) (sym from_start)
@@ -129,77 +118,36 @@ module _ (machine : Machine) (begin : ℕ) (cores : List NumberedCore) (before r
     stamps_many : length s.world.stamps ≡ machine.cores
     stamps_many = h.stamps ∙ (ap (λ (w : ShardWorld). length w.stamps) world_is ∙ (length-replicate (length (timed_of cores)) 0 ∙ many))
 
-    few : length taken < 2 ^ 32
-    few =
-        let most = h.few in
-        let all = few_in_all machine.cores (core_room machine) is.cores.1 in
-        let short = is.interval.1 in
-        omega (arith, most, all, short)
-
-    some_banks : 0 < length s.world.shards
-    some_banks = (let b = banks in let m = shards_many in omega (arith, b, some, m))
-
     module _ (law : PhasesAreHistories (access_time_of machine) image end) where
       found : IsHistory (access_time_of machine) image end (timed_of cores) shards taken × (turns ≡ map (λ e. e.core) taken) × (phase_by after s taken ≡ after_history (access_time_of machine) image end (timed_of cores) shards taken)
       found =
           law (timed_of cores) shards turns (phase_by after s taken) (let m = shards_many in omega (arith, some, m)) (All-map (λ (shard : ShardState). shard.last ≡ 0) restarted before.world.shards (λ k d below. refl)) phase
 
-      known_lists : All (λ e. e.core < length s.lists) taken
-      known_lists = subst (λ (n : ℕ). All (λ (e : Entry). e.core < n) taken) (sym lists_many) found.0.known
-
-      stamped : AreStamped (length s.world.shards) (no_stamps (length s.world.shards) (length s.lists)) taken
-      stamped =
-          subst (λ (n : ℕ). AreStamped n (no_stamps n (length s.lists)) taken) (sym banks)
-          (subst (λ (n : ℕ). AreStamped (length shards) (no_stamps (length shards) n) taken) (sym lists_many) found.0.stamped)
-
-      all_of : (P : Entry → Type 0) → All P taken → All P (entries_of s)
-      all_of P all = all_of_all taken s.lists h.own known_lists P all
-
-      module _ (rise : StampsRise) (decide : CoresDecideTheOrder) (keep : RecordedOrderKeepsTheStamps) where
-        in_order : recorded_order (entries_of s) ≡ recorded_order taken
-        in_order = same_recorded taken s.lists h.own known_lists (length s.world.shards) some_banks stamped rise decide
-
-        as_many : length (entries_of s) ≡ length taken
-        as_many = sym (length_recorded (entries_of s)) ∙ (ap length in_order ∙ length_recorded taken)
-
-        pub in_recorded : (core : ℕ) → of_core core (recorded_order (entries_of s)) ≡ of_core core taken
-        in_recorded = own_recorded taken s.lists h.own known_lists (length s.world.shards) some_banks stamped rise decide keep
-
-        pub have_run : begin ≡ end - machine.interval → HaveRun machine image end turns taken cores after before s
-        have_run begin_is = record {
-          phase = phase;
-          turns_are = found.1;
-          in_turn = record { some = some_banks; few = few; known = known_lists; own = h.own; stamped = stamped };
-          in_order = sym in_order;
-          own = λ core es here. in_recorded core ∙ h.own core es here;
-          known = subst (λ (n : ℕ). All (λ (e : Entry). e.core < n) (entries_of s)) (lists_many ∙ many) (all_of (λ (e : Entry). e.core < length s.lists) known_lists);
-          starts = all_of (λ (e : Entry). e.start ≤ 2 ^ 34) h.starts;
-          few = (let f = h.few in let m = as_many in omega (arith, f, m));
-          reach = all_of (IsInReach s.begin s.base) h.reach;
-          count = h.count ∙ count;
-          numbered = h.numbered;
-          over = h.over;
-          clocks = h.clocks;
-          recorder = record {
-            stamps = stamps_many;
-            lists = lists_many ∙ many;
-            room = subst (λ (n : ℕ). core_room machine ≤ n) (sym (h.room_is ∙ ap (λ (x : RecorderState). x.room) begins)) recorder.room;
-            base = h.base_is ∙ (ap (λ (x : RecorderState). x.base) begins ∙ recorder.base);
-          };
-          begins = h.begin_is ∙ (ap (λ (x : RecorderState). x.begin) begins ∙ begin_is);
-          banks = banks ∙ shards_many;
-        }
-
-        -- the order of the turns is that in which their list takes the accesses
-        pub as_listed : in_turns turns s.lists ≡ taken
-        as_listed = ap (λ (ns : List ℕ). in_turns ns s.lists) found.1 ∙ taken_again taken s.lists h.own known_lists
-
-        pub own_of : (core : ℕ) (es : List Entry) → slice_get s.lists core ≡ Some es → All (λ e. e.core ≡ core) es
-        own_of = own_cores taken s.lists h.own known_lists
-
-        -- recorded order leaves each core's accesses in their order
-        pub same_in_order : (core : ℕ) → of_core core (recorded_order (entries_of s)) ≡ of_core core (entries_of s)
-        same_in_order core = in_recorded core ∙ sym (same_cores taken s.lists h.own known_lists core)
+      pub has_history : begin ≡ end - machine.interval → HasHistory machine image end turns taken cores after before s
+      has_history begin_is = record {
+        history = found.0;
+        left = s.world;
+        phase = phase;
+        same = refl;
+        turns_are = found.1;
+        own = h.own;
+        starts = h.starts;
+        reach = h.reach;
+        few = h.few;
+        many = count;
+        count = h.count ∙ count;
+        numbered = h.numbered;
+        over = h.over;
+        clocks = h.clocks;
+        recorder = record {
+          stamps = stamps_many;
+          lists = lists_many ∙ many;
+          room = subst (λ (n : ℕ). core_room machine ≤ n) (sym (h.room_is ∙ ap (λ (x : RecorderState). x.room) begins)) recorder.room;
+          base = h.base_is ∙ (ap (λ (x : RecorderState). x.base) begins ∙ recorder.base);
+        };
+        begins = h.begin_is ∙ (ap (λ (x : RecorderState). x.begin) begins ∙ begin_is);
+        banks = banks ∙ shards_many;
+      }
 
 -- ---- what the interval begins with
 

@@ -1,5 +1,6 @@
 -- Cores that run to the end of an interval, one after the other.
-use Rattle.std.specs.Prelude.{◌≡◌, ℕ, ◌+◌, ◌-◌, ◌*◌, ◌^◌, ◌<◌, ◌≤◌, Bool, false, IsTrue, List, [], ◌++◌, length, map, slice_get, slice_set, Some, None, All}
+use Rattle.std.specs.Prelude.{◌≡◌, ℕ, ◌+◌, ◌-◌, ◌*◌, ◌/◌, ◌^◌, ◌<◌, ◌≤◌, Bool, false, IsTrue, List, [], ◌++◌, length, map, slice_get, slice_set, Some, None, All}
+use Rattle.zs_num.specs.Request.{line_of}
 use Rattle.zs_num.specs.declared.entry.Entry.{Entry}
 use Rattle.elf_load.specs.MemoryImage.{MemoryImage}
 use Rattle.machine_desc.specs.declared.machine.Machine.{Machine}
@@ -40,6 +41,12 @@ pub record CanRunInterval (machine : Machine) (end base size : ℕ) (l1i : Bool)
   pub base_is : c.core.memory.base ≡ base
   pub size_is : c.core.memory.size ≡ size
   pub fetches : IsTrue c.core.fetching → IsTrue l1i
+
+-- it begins no earlier than this, and is in this memory
+pub record IsNear (low base size : ℕ) (e : Entry) : Type 0 where
+  pub from : low ≤ e.start
+  pub first : base / 64 ≤ line_of e.request
+  pub near : line_of e.request ≤ (base + size) / 64
 
 -- a bound phase on its way, with these cores, where one worker has recorded it, one core after the other
 abbrev pub phase_in : List NumberedCore → RecorderState → BoundState ShardWorld

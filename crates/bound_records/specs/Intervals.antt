@@ -1,4 +1,4 @@
--- The bound phase of an interval by one worker.
+-- The bound phase of an interval, and what is kept of its accesses.
 use Rattle.std.specs.Prelude.{◌≡◌, ℕ, ◌-◌, ◌*◌, ◌^◌, ◌<◌, ◌≤◌, List, length, map, slice_get, Some, Ok, All}
 use Rattle.zs_num.specs.declared.entry.Entry.{Entry}
 use Rattle.elf_load.specs.MemoryImage.{MemoryImage}
@@ -38,8 +38,11 @@ CanAllRun machine end cores r = (i : ℕ) (c : NumberedCore) → slice_get cores
 
 -- All cores have run to the end of the interval, by these turns, which took the accesses in this order.
 pub record HaveRun (machine : Machine) (image : MemoryImage) (end : ℕ) (turns : List ℕ) (taken : List Entry) (cores after : List NumberedCore) (r r_after : RecorderState) : Type 0 where
+  -- caches and memory with their last stamps, which need not be kept
+  pub left : ShardWorld
   -- it is the bound phase of the interval
-  pub phase : bound_phase shards_serve (access_time_of machine) image end turns (begun_over_shards (timed_of cores) (map restarted r.world.shards)) ≡ Ok (record { cores = timed_of after; world = r_after.world; entries = taken })
+  pub phase : bound_phase shards_serve (access_time_of machine) image end turns (begun_over_shards (timed_of cores) (map restarted r.world.shards)) ≡ Ok (record { cores = timed_of after; world = left; entries = taken })
+  pub same : map restarted left.shards ≡ map restarted r_after.world.shards
   pub turns_are : turns ≡ map (λ e. e.core) taken
   pub in_turn : AreStampedInTurn taken r_after
   -- in recorded order they are those of the cores, one after the other

@@ -1,3 +1,4 @@
+pub mod Apart
 pub mod CoreRuns
 pub mod Counted
 pub mod Intervals

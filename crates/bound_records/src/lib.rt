@@ -3,6 +3,7 @@
 #![tactic(auto)]
 
 mod accesses;
+mod apart;
 mod gated_port;
 mod listed_turns;
 mod own_program;
@@ -12,6 +13,8 @@ mod running;
 mod turn_port;
 mod turns_fail;
 
+pub use apart::RecorderParts;
 pub use own_program::OwnProgram;
+pub use record_port::{CoreRecord, keep};
 pub use recorder::Recorder;
 pub use turns_fail::TurnsFail;

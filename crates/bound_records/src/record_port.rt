@@ -26,10 +26,10 @@ struct Fetches;
 /// What is kept of a core's accesses in an interval: a byte of each, what all count, and a record of
 /// each that makes events.
 #[derive(Drop)]
-pub(crate) struct CoreRecord {
-    pub(crate) log: BankLog,
-    pub(crate) records: RecordLog,
-    pub(crate) count: CoreCount,
+pub struct CoreRecord {
+    pub log: BankLog,
+    pub records: RecordLog,
+    pub count: CoreCount,
 }
 
 /// The caches and the memory of a machine, and what is kept of the accesses of the core that runs.
@@ -151,12 +151,7 @@ impl Port for RecordPort {
 
 /// Keeps an access of a core.
 #[inline(always)]
-pub(crate) fn keep<T>(
-    log: &mut BankLog,
-    records: &mut RecordLog,
-    count: &mut CoreCount,
-    entry: &Entry,
-)
+pub fn keep<T>(log: &mut BankLog, records: &mut RecordLog, count: &mut CoreCount, entry: &Entry)
     requires core { entry.now.core ≡ log.old.core }
     requires some { 0 < log.old.banks }
     requires room { length log.old.entries < log.old.room }

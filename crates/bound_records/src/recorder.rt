@@ -197,8 +197,8 @@ impl Recorder {
         &self.counts
     }
 
-    /// The cores of the interval's accesses, in recorded order. These are the turns by which they
-    /// were made.
+    /// The cores of the interval's accesses, in recorded order. These are the turns by which the
+    /// accesses were made.
     pub fn recorded_cores(&self, alloc: Global, turns: Turns<'_>) -> Result<Vec<u16>, NoMemory>
         requires { AreTakenIn turns self.now }
         ensures { IfOk result (λ list. list.items ≡ map (λ e. e.core) (recorded_order (entries_of self.now))) }

@@ -5,10 +5,9 @@ use Rattle.event_graph.specs.PathInRange.{IsAccessPath}
 use Rattle.bound_core.specs.ShardPort.{base_of, l1i_of, size_of}
 use Rattle.bound_core.specs.ShardWorld.{ShardWorld}
 use Rattle.bound_records.specs.CoreRuns.{CanRunInterval}
-use Rattle.bound_records.specs.Intervals.{HaveRun}
 use Rattle.bound_records.specs.Recorders.{RecorderState, entries_of}
-use Rattle.bound_records.proofs.Chained.{are_kept}
-use Rattle.bound_records.proofs.Whole.{HaveEnded, begun_base, begun_size, ended_in_order, have_run, none_there, own_of, recorder_begun, room_for_all, same_in_order, world_begun}
+use Rattle.bound_records.proofs.ByHistory.{have_run, kept_run}
+use Rattle.bound_records.proofs.Whole.{HaveEnded, begun_base, begun_size, ended_in_order, has_history, none_there, recorder_begun, room_for_all, world_begun}
 use Rattle.bound_records.proofs.recorder.Recorder.run.Goals as goal
 
 pub run_cores-requires-clause-recorder : goal.run_cores-requires-clause-recorder
@@ -37,10 +36,16 @@ run_cores-requires-clause-room g c κs within = room_for_all c.args.machine.now 
 
 pub returns-clause-run : goal.returns-clause-run
 returns-clause-run g c =
+    let machine = c.args.machine.now in
     let s = c.in_ok-recorder.recorder in
-    have_run c.args.machine.now c.saturating_sub.result c.args.cores.now c.args.self c.restart.new.self c.requires.recorder c.restart.ensures c.requires.count
-    c.args.program.now c.args.end (map (λ (e : Entry). e.core) (entries_of s)) (entries_of s) c.run_cores.new.cores s c.requires.machine c.requires.shards.some (ended_in_order c.args.machine.now c.args.program.now c.args.end c.args.cores.now c.run_cores.new.cores c.restart.new.self s c.requires.count c.in_ok-recorder.ensures) (c.phases_are_histories.ensures _ c.args.program.now c.args.end)
-    c.stamps_rise.ensures c.cores_decide_the_order.ensures c.recorded_order_keeps_the_stamps.ensures c.saturating_sub.ensures
+    let turns : List ℕ = map (λ (e : Entry). e.core) (entries_of s) in
+    let ended : HaveEnded machine c.args.program.now c.args.end turns (entries_of s) c.args.cores.now c.run_cores.new.cores c.restart.new.self s =
+    ended_in_order machine c.args.program.now c.args.end c.args.cores.now c.run_cores.new.cores c.restart.new.self s c.requires.count c.in_ok-recorder.ensures
+    in
+    have_run machine c.args.program.now c.args.end turns (entries_of s) c.args.cores.now c.run_cores.new.cores c.args.self s c.requires.machine
+    (has_history machine c.saturating_sub.result c.args.cores.now c.args.self c.restart.new.self c.requires.recorder c.restart.ensures c.requires.count
+    c.args.program.now c.args.end turns (entries_of s) c.run_cores.new.cores s c.requires.shards.some ended (c.phases_are_histories.ensures _ c.args.program.now c.args.end) c.saturating_sub.ensures)
+    c.stamps_rise.ensures c.cores_decide_the_order.ensures c.recorded_order_keeps_the_stamps.ensures
 
 pub returns-clause-kept : goal.returns-clause-kept
 returns-clause-kept g c =
@@ -50,15 +55,9 @@ returns-clause-kept g c =
     let ended : HaveEnded machine c.args.program.now c.args.end turns (entries_of s) c.args.cores.now c.run_cores.new.cores c.restart.new.self s =
     ended_in_order machine c.args.program.now c.args.end c.args.cores.now c.run_cores.new.cores c.restart.new.self s c.requires.count c.in_ok-recorder.ensures
     in
-    let has : HaveRun machine c.args.program.now c.args.end turns (entries_of s) c.args.cores.now c.run_cores.new.cores c.args.self s =
-    have_run machine c.saturating_sub.result c.args.cores.now c.args.self c.restart.new.self c.requires.recorder c.restart.ensures c.requires.count
-    c.args.program.now c.args.end turns (entries_of s) c.run_cores.new.cores s c.requires.machine c.requires.shards.some ended (c.phases_are_histories.ensures _ c.args.program.now c.args.end)
-    c.stamps_rise.ensures c.cores_decide_the_order.ensures c.recorded_order_keeps_the_stamps.ensures c.saturating_sub.ensures
-    in
-    are_kept machine s has.known has.starts has.few has.reach has.recorder.lists
-    (own_of machine c.saturating_sub.result c.args.cores.now c.args.self c.restart.new.self c.requires.recorder c.restart.ensures c.requires.count
-    c.args.program.now c.args.end turns (entries_of s) c.run_cores.new.cores s c.requires.machine c.requires.shards.some ended (c.phases_are_histories.ensures _ c.args.program.now c.args.end) c.stamps_rise.ensures c.cores_decide_the_order.ensures c.recorded_order_keeps_the_stamps.ensures)
-    (same_in_order machine c.saturating_sub.result c.args.cores.now c.args.self c.restart.new.self c.requires.recorder c.restart.ensures c.requires.count
-    c.args.program.now c.args.end turns (entries_of s) c.run_cores.new.cores s c.requires.machine c.requires.shards.some ended (c.phases_are_histories.ensures _ c.args.program.now c.args.end) c.stamps_rise.ensures c.cores_decide_the_order.ensures c.recorded_order_keeps_the_stamps.ensures)
+    kept_run machine c.args.program.now c.args.end turns (entries_of s) c.args.cores.now c.run_cores.new.cores c.args.self s c.requires.machine
+    (has_history machine c.saturating_sub.result c.args.cores.now c.args.self c.restart.new.self c.requires.recorder c.restart.ensures c.requires.count
+    c.args.program.now c.args.end turns (entries_of s) c.run_cores.new.cores s c.requires.shards.some ended (c.phases_are_histories.ensures _ c.args.program.now c.args.end) c.saturating_sub.ensures)
+    c.stamps_rise.ensures c.cores_decide_the_order.ensures c.recorded_order_keeps_the_stamps.ensures
     c.records_stand_for_accesses.ensures c.records_keep_each_access.ensures c.records_keep_the_events.ensures c.net_accesses_have_few_events.ensures c.net_accesses_beyond_hits_have_events.ensures c.net_events_are_in_a_row.ensures
     (subst IsAccessPath c.requires.net c.args.net.now.in_range)

@@ -13,12 +13,12 @@ use Rattle.bound_records.specs.CoreRuns.{CanRunInterval, access_time_of, phase_i
 use Rattle.bound_records.specs.Intervals.{AreKept, HaveRun}
 use Rattle.bound_records.specs.Recorders.{RecorderState, entries_of}
 use Rattle.bound_records.specs.Turns.{HaveTaken, time_by_net}
+use Rattle.bound_records.proofs.ByHistory.{HasHistory, as_listed, have_run, kept_run}
 use Rattle.bound_records.proofs.ByTurns.{ended_by_turns}
-use Rattle.bound_records.proofs.Chained.{are_kept}
 use Rattle.bound_records.proofs.SameCores.{ready_again}
 use Rattle.bound_records.proofs.Turns.{same_times}
 use Rattle.bound_records.proofs.TurnsBegin.{all_most, turns_begin}
-use Rattle.bound_records.proofs.Whole.{HaveEnded, as_listed, begun_base, begun_size, from_start, have_run, none_at_first, own_of, recorder_begun, room_for_all, same_in_order, world_begun}
+use Rattle.bound_records.proofs.Whole.{HaveEnded, begun_base, begun_size, from_start, has_history, none_at_first, recorder_begun, room_for_all, world_begun}
 use Rattle.bound_records.proofs.recorder.Recorder.run_under.Goals as goal
 
 pub new-port-requires : goal.new-port-requires
@@ -109,16 +109,13 @@ returns-in-Ok-clause-run c =
     let ended : HaveEnded machine image end turns taken.taken cores after r s =
     ended_by_turns machine image end turns cores after r s (recorder.stamps ∙ sym c.requires.count) (recorder.lists ∙ sym c.requires.count) (c.take_turns.ensures.count ∙ c.reserve_all.auto.cores) c.in-Ok.ensures.over taken
     in
-    let has : HaveRun machine image end turns taken.taken cores after before s =
-    have_run machine begin cores before r c.requires.recorder begins c.requires.count image end turns taken.taken after s c.requires.machine c.requires.shards.some ended (c.phases_are_histories.ensures _ image end)
-    c.stamps_rise.ensures c.cores_decide_the_order.ensures c.recorded_order_keeps_the_stamps.ensures c.saturating_sub.ensures
+    let has : HasHistory machine image end turns taken.taken cores after before s =
+    has_history machine begin cores before r c.requires.recorder begins c.requires.count image end turns taken.taken after s c.requires.shards.some ended (c.phases_are_histories.ensures _ image end) c.saturating_sub.ensures
     in
-    let listed : in_turns turns s.lists ≡ taken.taken =
-    as_listed machine begin cores before r c.requires.recorder begins c.requires.count image end turns taken.taken after s c.requires.machine c.requires.shards.some ended (c.phases_are_histories.ensures _ image end)
-    c.stamps_rise.ensures c.cores_decide_the_order.ensures c.recorded_order_keeps_the_stamps.ensures
-    in
+    let listed : in_turns turns s.lists ≡ taken.taken = as_listed machine image end turns taken.taken cores after before s c.requires.machine has in
     subst (λ (x : RecorderState). HaveRun machine image end turns (in_turns turns x.lists) cores after before x) (sym c.finish.ensures)
-    (subst (λ (es : List Entry). HaveRun machine image end turns es cores after before s) (sym listed) has)
+    (subst (λ (es : List Entry). HaveRun machine image end turns es cores after before s) (sym listed)
+    (have_run machine image end turns taken.taken cores after before s c.requires.machine has c.stamps_rise.ensures c.cores_decide_the_order.ensures c.recorded_order_keeps_the_stamps.ensures))
 
 pub returns-in-Ok-clause-kept : goal.returns-in-Ok-clause-kept
 returns-in-Ok-clause-kept c =
@@ -163,15 +160,12 @@ returns-in-Ok-clause-kept c =
     let ended : HaveEnded machine image end turns taken.taken cores after r s =
     ended_by_turns machine image end turns cores after r s (recorder.stamps ∙ sym c.requires.count) (recorder.lists ∙ sym c.requires.count) (c.take_turns.ensures.count ∙ c.reserve_all.auto.cores) c.in-Ok.ensures.over taken
     in
-    let has : HaveRun machine image end turns taken.taken cores after before s =
-    have_run machine begin cores before r c.requires.recorder begins c.requires.count image end turns taken.taken after s c.requires.machine c.requires.shards.some ended (c.phases_are_histories.ensures _ image end)
-    c.stamps_rise.ensures c.cores_decide_the_order.ensures c.recorded_order_keeps_the_stamps.ensures c.saturating_sub.ensures
+    let has : HasHistory machine image end turns taken.taken cores after before s =
+    has_history machine begin cores before r c.requires.recorder begins c.requires.count image end turns taken.taken after s c.requires.shards.some ended (c.phases_are_histories.ensures _ image end) c.saturating_sub.ensures
     in
-    subst (AreKept machine) (sym c.finish.ensures) (are_kept machine s has.known has.starts has.few has.reach has.recorder.lists
-    (own_of machine begin cores before r c.requires.recorder begins c.requires.count image end turns taken.taken after s c.requires.machine c.requires.shards.some ended (c.phases_are_histories.ensures _ image end)
-    c.stamps_rise.ensures c.cores_decide_the_order.ensures c.recorded_order_keeps_the_stamps.ensures)
-    (same_in_order machine begin cores before r c.requires.recorder begins c.requires.count image end turns taken.taken after s c.requires.machine c.requires.shards.some ended (c.phases_are_histories.ensures _ image end)
-    c.stamps_rise.ensures c.cores_decide_the_order.ensures c.recorded_order_keeps_the_stamps.ensures)
+    subst (AreKept machine) (sym c.finish.ensures)
+    (kept_run machine image end turns taken.taken cores after before s c.requires.machine has
+    c.stamps_rise.ensures c.cores_decide_the_order.ensures c.recorded_order_keeps_the_stamps.ensures
     c.records_stand_for_accesses.ensures c.records_keep_each_access.ensures c.records_keep_the_events.ensures c.net_accesses_have_few_events.ensures c.net_accesses_beyond_hits_have_events.ensures c.net_events_are_in_a_row.ensures
     (subst IsAccessPath c.requires.net c.args.net.now.in_range))
 
