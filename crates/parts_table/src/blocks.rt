@@ -65,6 +65,13 @@ impl Blocks {
         self.closed + self.count
     }
 
+    /// For how many accesses there is room.
+    pub fn room(&self) -> u32
+        ensures { result ≡ self.now.room }
+    {
+        self.room
+    }
+
     /// Forgets the accesses, at the time 0 again, and keeps the room.
     pub fn clear(&mut self)
         ensures { self.new ≡ record { keys = []; now = 1; made = 0; room = self.old.room } }

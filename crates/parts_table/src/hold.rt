@@ -127,6 +127,23 @@ pub(crate) fn is_wanted(bench: &Bench, parts: usize, core: u16) -> bool
     bench.peek(want_word(parts, core)) != 0
 }
 
+/// Lets a while pass: until the core that wants this core's L1 has taken it and so wants it no
+/// longer, or else until others ran. Without it the core that gave it would mostly have it back
+/// before the other sees that it is free. There are so many parts.
+pub(crate) fn until_taken(bench: &Bench, parts: usize, core: u16)
+    requires places { HasPlaces bench.now.table_id bench.now.key.cores bench.now.key.banks }
+    requires parts { parts ≡ bench.now.key.cores + bench.now.key.banks }
+    requires core { core < bench.now.key.cores }
+{
+    for _ in 0..LOOKS {
+        if !is_wanted(bench, parts, core) {
+            return;
+        }
+        hint::spin_loop();
+    }
+    thread::yield_now();
+}
+
 /// The word that tells that a core's L1 is wanted. There are so many parts.
 fn want_word(parts: usize, core: u16) -> usize
     requires { parts < 2 ^ 32 }

@@ -1,5 +1,5 @@
 //! Places for the L1s of all cores.
-ghost use Rattle.std.specs.Prelude.{◌≡◌, ◌≢◌, ℕ, ◌+◌, ◌<◌, ◌≤◌, ◌^◌, ◌⊎◌, false, true, is_some, length, nat_eq, IfNone, IfOk, IfSome};
+ghost use Rattle.std.specs.Prelude.{◌≡◌, ◌≢◌, ℕ, ◌+◌, ◌<◌, ◌≤◌, ◌^◌, ◌⊎◌, IsTrue, false, true, is_some, length, nat_eq, IfNone, IfOk, IfSome};
 ghost use Rattle.std.specs.Set.{is_member};
 ghost use Rattle.l1_cache.specs.L1State.{is_private, place_in_line, L1State};
 ghost use Rattle.mesi_dir.specs.CoreSets.{cores_in};
@@ -60,6 +60,20 @@ impl Places {
             times: vec![in alloc; 0; usize::from(cores)]?,
             spares: Vec::with_capacity(alloc, MOST)?,
         })
+    }
+
+    /// How many cores they are for.
+    pub fn cores(&self) -> usize
+        ensures { result ≡ length self.now.l1s }
+    {
+        self.l1s.len()
+    }
+
+    /// Whether none is filled.
+    pub fn are_empty(&self) -> bool
+        ensures { IsTrue result → self.now.filled ≡ 0 }
+    {
+        self.spares.is_empty()
     }
 
     /// Puts the L1 of a core into its place.

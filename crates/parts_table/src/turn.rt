@@ -4,15 +4,15 @@ ghost use Rattle.zs_num.specs.declared.entry.Outcome.TheVariants.{Hit};
 ghost use Rattle.parts_table.specs.Access.{CanAsk, IsAccess, IsSameSeat, IsSeatOf};
 ghost use Rattle.parts_table.specs.World.{world_of, MayAsk};
 
-use crate::hold::is_wanted;
+use crate::hold::{is_wanted, until_taken};
 use crate::laws;
+use crate::pause::Pause;
 use crate::places::Places;
 use crate::seat::CoreSeat;
 use crate::station::Station;
 use crate::table::PartsTable;
 use std::marker::Model;
 use std::sync::Wait;
-use zs_host::{Gate, OpenGate, Point};
 use zs_num::{Cycle, Entry, Request};
 
 /// A core's seat at a table, while the core works: it holds the core's own L1, and no other core
@@ -81,6 +81,14 @@ impl CoreTurn {
         Some(made.entry)
     }
 
+    /// The number of the core.
+    #[inline(always)]
+    pub fn core(&self) -> u16
+        ensures { result ≡ self.now.core }
+    {
+        self.station.core
+    }
+
     /// Serves an access of the core that starts then. It waits until no other core holds what the
     /// access touches.
     pub fn serve<R: Wait>(
@@ -132,21 +140,31 @@ impl CoreTurn {
         ensures made { self.new.made ≡ self.old.made }
     {
         if self.is_wanted(table) {
-            self.pass(rt, table, &OpenGate, 0);
+            self.let_pass(rt, table);
         }
     }
 
-    /// Passes a gate before an access, as this worker. The core holds nothing then: it gives its own
-    /// L1, and takes it back.
+    /// Gives the core's own L1, and takes it back when the core that wants it had it.
     #[inline(never)]
-    pub fn pass<R: Wait, G: Gate>(&mut self, rt: &R, table: &PartsTable, gate: &G, worker: u16)
+    fn let_pass<R: Wait>(&mut self, rt: &R, table: &PartsTable)
         requires table { IsSeatOf table.now self.old }
         ensures same { IsSameSeat self.old self.new }
         ensures made { self.new.made ≡ self.old.made }
     {
-        let core = self.station.core;
         self.station.give_own(table, &mut self.places);
-        gate.pass(worker, Point::Access { core });
+        until_taken(&table.words.shared, table.parts(), self.station.core);
+        self.station.take_own(rt, table, &mut self.places);
+    }
+
+    /// Pauses before an access. The core holds nothing then: it gives its own L1, and takes it back.
+    #[inline(never)]
+    pub fn pause<R: Wait, P: Pause>(&mut self, rt: &R, table: &PartsTable, pause: &P)
+        requires table { IsSeatOf table.now self.old }
+        ensures same { IsSameSeat self.old self.new }
+        ensures made { self.new.made ≡ self.old.made }
+    {
+        self.station.give_own(table, &mut self.places);
+        pause.pause();
         self.station.take_own(rt, table, &mut self.places);
     }
 
