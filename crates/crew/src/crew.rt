@@ -10,7 +10,6 @@ use crate::job::Job;
 use crate::post::Post;
 use crate::worker::Worker;
 use std::alloc::Global;
-use std::marker::Model;
 use std::sync::Wait;
 use std::thread::{Threads, for_each_mut, join_mut};
 use zs_num::NoMemory;
@@ -18,43 +17,19 @@ use zs_num::NoMemory;
 /// Workers at posts of their own, who wait for somebody to ask them.
 #[derive(Drop)]
 pub struct Crew<J: Job> {
-    posts: Vec<Post<J>>,
-    askers: Vec<Asker<J>>,
-    workers: Vec<Worker<J>>,
-    ghost askers_are_free: { askers.items ≡ free_seats posts.items },
-    ghost workers_are_free: { workers.items ≡ free_seats posts.items },
-}
-
-impl<J: Job> Model for Crew<J> {
-    ghost use Rattle.std.specs.Prelude.{ℕ, length};
-
-    ghost Value = { ℕ };
-
-    ghost view = { λ c. length c.posts.items };
-}
-
-/// Who asks the workers of a crew.
-pub trait Lead<J: Job> {
-    ghost use Rattle.std.specs.Prelude.{ℕ};
-
-    /// What it has to be to ask so many workers.
-    ghost can: { Self → ℕ → Type 0 };
-
-    /// What becomes of it.
-    ghost led: { Self → Self → Type 0 };
-
-    /// Sends jobs by the askers at the posts of these numbers, and collects all of them.
-    fn lead(&mut self, posts: &[Post<J>], askers: &mut [Asker<J>])
-        requires can { can self.old (length posts.now) }
-        requires free { askers.old ≡ free_seats posts.now }
-        ensures led { led self.old self.new }
-        ensures free { askers.new ≡ askers.old };
+    pub posts: Vec<Post<J>>,
+    /// Who asks at each of the posts.
+    pub askers: Vec<Asker<J>>,
+    /// Who works at each of them.
+    pub workers: Vec<Worker<J>>,
 }
 
 impl<J: Job> Crew<J> {
     /// A crew of so many workers.
     pub fn hire(alloc: Global, count: usize) -> Result<Crew<J>, NoMemory>
-        ensures { IfOk result (λ crew. crew ≡ count) }
+        ensures count { IfOk result (λ crew. length crew.posts.items ≡ count) }
+        ensures askers { IfOk result (λ crew. crew.askers.items ≡ free_seats crew.posts.items) }
+        ensures workers { IfOk result (λ crew. crew.workers.items ≡ free_seats crew.posts.items) }
     {
         let mut posts = Vec::with_capacity(alloc, count)?;
         let mut askers = Vec::with_capacity(alloc, count)?;
@@ -71,60 +46,34 @@ impl<J: Job> Crew<J> {
             workers,
         })
     }
-
-    /// Runs the lead in this thread, and each worker in a thread of its own where one can be made.
-    /// A worker whose thread can't be made takes no job; what was sent to it comes back untouched.
-    pub fn run<R: Threads + Wait + Sync, L: Lead<J>>(self, rt: &R, lead: &mut L)
-        requires { L.can lead.old self }
-        ensures { L.led lead.old lead.new }
-    {
-        let Crew {
-            posts,
-            mut askers,
-            mut workers,
-        } = self;
-        run_beside(
-            rt,
-            posts.as_slice(),
-            askers.as_mut_slice(),
-            workers.as_mut_slice(),
-            lead,
-        );
-    }
 }
 
-/// Runs the lead and the workers beside each other. Where no thread can be made, the workers come
-/// last: they then find that the lead has ended.
-fn run_beside<R: Threads + Wait + Sync, J: Job, L: Lead<J>>(
+/// Runs a lead in this thread, who asks the workers, and each worker in a thread of its own where
+/// one can be made. A worker whose thread can't be made takes no job; what was sent to it comes back
+/// untouched. The lead ends by `end_all`, as nothing else ends the workers. Where no thread can be
+/// made they come last, and find that the lead has ended.
+pub fn run_beside<R: Threads + Wait + Sync, J: Job, T, L: FnMut() -> T>(
     rt: &R,
     posts: &[Post<J>],
-    askers: &mut [Asker<J>],
     workers: &mut [Worker<J>],
     lead: &mut L,
-)
-    requires can { L.can lead.old (length posts.now) }
-    requires askers { askers.old ≡ free_seats posts.now }
+) -> T
     requires workers { workers.old ≡ free_seats posts.now }
-    ensures { L.led lead.old lead.new }
+    requires lead { L.pre lead.old }
+    ensures { L.step lead.old result lead.new }
 {
     let mut worked = ||
         requires { IsSync R.row × IsSend J.row × (workers.now ≡ free_seats posts.now) }
         ensures { length workers.exit.now ≡ length workers.entry.now }
     { serve_all(rt, posts, workers) };
-    let mut led = ||
-        requires { L.can lead.now (length posts.now) × (askers.now ≡ free_seats posts.now) }
-        ensures { L.led lead.entry.now lead.exit.now }
-    { lead_to_the_end(posts, askers, lead) };
-    join_mut(rt, &mut worked, &mut led);
+    let ((), led) = join_mut(rt, &mut worked, lead);
+    led
 }
 
-/// Runs the lead, and tells all workers that no job follows.
-fn lead_to_the_end<J: Job, L: Lead<J>>(posts: &[Post<J>], askers: &mut [Asker<J>], lead: &mut L)
-    requires can { L.can lead.old (length posts.now) }
-    requires free { askers.old ≡ free_seats posts.now }
-    ensures { L.led lead.old lead.new }
+/// Tells all workers that no job follows. It waits for nobody.
+pub fn end_all<J: Job>(posts: &[Post<J>], askers: &mut [Asker<J>])
+    requires { askers.old ≡ free_seats posts.now }
 {
-    lead.lead(posts, askers);
     for number in 0..posts.len() {
         end_at(posts, askers, number);
     }

@@ -15,7 +15,7 @@ mod view;
 mod worker;
 
 pub use asker::{Asker, Collected};
-pub use crew::{Crew, Lead};
+pub use crew::{Crew, end_all, run_beside};
 pub use job::Job;
 pub use post::Post;
 pub use share::do_all;
