@@ -13,7 +13,6 @@ use Rattle.bound_core.specs.HistoryLaws.{HistoriesArePhases, PhasesAreHistories,
 use Rattle.bound_core.specs.ReferenceMachine.{BoundState, bound_phase}
 use Rattle.bound_core.specs.ShardWorld.{ShardWorld, restarted, shards_serve}
 use Rattle.replay.specs.declared.simulation.Simulation.{Simulation}
-use Rattle.replay.specs.Memory.{shards_in}
 use Rattle.replay.specs.ReferenceRun.{time_of}
 use Rattle.replay.specs.Simulation.{IsBoundPhase, cores_of}
 use Rattle.replay.proofs.RecordedOrder.{recorded_again}
@@ -28,15 +27,15 @@ pub record OrderLaws (time : Entry → ℕ) (image : MemoryImage) (end : ℕ) : 
   pub decide : CoresDecideTheOrder
 
 -- the turns in recorded order lead there too
-pub in_recorded_order : (machine : Machine) (image : MemoryImage) (end : ℕ) (p q : Simulation) (turns : List ℕ) (entries : List Entry) → 0 < length (shards_in p.memory)
+pub in_recorded_order : (machine : Machine) (image : MemoryImage) (end : ℕ) (p q : Simulation) (turns : List ℕ) (entries : List Entry) → 0 < length p.recorder.world.shards
     → OrderLaws (time_of machine) image end → IsBoundPhase machine image end p turns q entries → IsBoundPhase machine image end p (map (λ e. e.core) entries) q entries
 in_recorded_order machine image end p q turns entries some laws b =
     let cores = cores_of p in
-    let shards = map restarted (shards_in p.memory) in
+    let shards = map restarted p.recorder.world.shards in
     let time = time_of machine in
-    let some_shard : 0 < length shards = omega (arith, some, length-map (shards_in p.memory) restarted) in
+    let some_shard : 0 < length shards = omega (arith, some, length-map p.recorder.world.shards restarted) in
     let taken : List Entry = b.left.entries in
-    let found = laws.histories cores shards turns b.left some_shard (All-map (λ (shard : ShardState). shard.last ≡ 0) restarted (shards_in p.memory) (λ k d below. refl)) b.phase in
+    let found = laws.histories cores shards turns b.left some_shard (All-map (λ (shard : ShardState). shard.last ≡ 0) restarted p.recorder.world.shards (λ k d below. refl)) b.phase in
     let sorted = laws.recorded cores shards taken found.0 in
     let left : BoundState ShardWorld = record { cores = b.left.cores; world = b.left.world; entries = entries } in
     let phase : bound_phase shards_serve time image end (map (λ e. e.core) (recorded_order taken)) (begun_over_shards cores shards) ≡ Ok (record b.left { entries = recorded_order taken }) =

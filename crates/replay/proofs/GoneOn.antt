@@ -6,9 +6,6 @@ use Rattle.machine_desc.specs.declared.machine.Machine.{Machine}
 use Rattle.machine_desc.specs.Machine.{IsMachine}
 use Rattle.component.specs.declared.comp.Comp.{Comp}
 use Rattle.stats.specs.Counts.{Interval}
-use Rattle.bound_records.specs.Recorders.{RecorderState}
-use Rattle.replay.specs.declared.memory.Memory.{Memory}
-use Rattle.replay.specs.declared.memory.Memory.TheVariants as memory
 use Rattle.replay.specs.declared.recording.Recording.{Recording}
 use Rattle.replay.specs.declared.simulation.Simulation.{Simulation}
 use Rattle.replay.specs.Recording.{IsRecordingOf}
@@ -38,10 +35,6 @@ gone_on machine image s turns others entries recording later p same are leads is
 pub woven_entries : (machine : Machine) (comps : List Comp) (entries : List Entry) → (woven_interval machine comps entries).entries ≡ entries
 unfolding woven_interval
 woven_entries machine comps entries = refl
-
-pub same_recorder : (m : Memory) (r other : RecorderState) → m ≡ memory.Alone r → m ≡ memory.Alone other → r ≡ other
-same_recorder m r other is too =
-    let same : memory.Alone r ≡ memory.Alone other = sym is ∙ too in cc
 
 bounded_product : (cores interval : ℕ) → cores ≤ 256 → interval ≤ 10258 → cores * interval ≤ 256 * 10258
 bounded_product cores interval few short = grind (arith, tests)

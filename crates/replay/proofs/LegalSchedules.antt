@@ -17,7 +17,7 @@ use Rattle.bound_core.specs.MachineWorld.{MachineWorld, serve}
 use Rattle.bound_core.specs.ReferenceMachine.{BoundState, access_served, and_then, are_done, at_end, bound_from, legal_at, turn, turn_at}
 use Rattle.bound_core.specs.TimedCore.{TimedCore, asks, first_core, ran_to}
 use Rattle.access_log.specs.RecordedOrder.{recorded_order}
-use Rattle.bound_phase.proofs.RecordedOrder.{length_recorded}
+use Rattle.bound_records.proofs.Lists.{length_recorded}
 use Rattle.replay.specs.Laws.{FitsRun}
 use Rattle.replay.specs.ReferenceRun.{Illegal, RunState, after_interval, after_intervals, after_weave, begun_interval, continued, end_of, first_state, has_ended, next_place, reference_run, results_at, run_results, time_of, woven_after, woven_interval}
 use Rattle.replay.specs.Results.{Results}

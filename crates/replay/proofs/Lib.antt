@@ -1,8 +1,5 @@
-pub mod AloneFacts
 pub mod BoundPhase
-pub mod ByWorkers
 pub mod Cores
-pub mod FiredInterval
 pub mod GoneOn
 pub mod HandedOn
 pub mod IntervalWeave
@@ -16,7 +13,7 @@ pub mod RunEnds
 pub mod RunEventsFile
 pub mod RunSoFar
 pub mod RecordedChains
+pub mod RecordedFacts
 pub mod RecordedPhase
 pub mod RecordedWeave
 pub mod SoundWeave
-pub mod Times

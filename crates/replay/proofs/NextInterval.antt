@@ -43,11 +43,10 @@ use Rattle.bound_core.specs.Turn.{IsOver}
 use Rattle.access_log.specs.History.{bank_of_entry, each_after, of_number}
 use Rattle.access_log.specs.RecordedOrder.{no_stamps, recorded_order}
 use Rattle.replay.specs.Limits.{access_limit, cycle_limit}
-use Rattle.replay.specs.declared.memory.Memory.{Memory}
 use Rattle.replay.specs.declared.simulation.Simulation.{Simulation}
-use Rattle.replay.specs.Memory.{IsForMachine, shards_in}
 use Rattle.replay.specs.ReferenceRun.{RunState, access_room, after_interval, after_weave, all_delayed, at_limit, begun_interval, end_of, first_state, has_ended, have_halted, recorded_turns, time_of, world_of, woven_after, woven_interval}
 use Rattle.bound_records.specs.CoreRuns.{AreNumbered, CanRunInterval}
+use Rattle.bound_records.specs.Recorders.{IsRecorderFor, RecorderState}
 use Rattle.replay.specs.Simulation.{HasNextInterval, HasRoomForInterval, IsBoundPhase, IsCounted, LeadsTo, StandsFor, begun_shards, cores_of}
 use Rattle.bound_core.proofs.ShardPorts.{shards_restarted}
 use Rattle.bound_core.proofs.ShardsStay.{shards_after, whatever_stamps}
@@ -125,7 +124,7 @@ counted_comps cores comps intervals =
 
 module _ (machine : Machine) (end : ℕ) (s : RunState) (p : Simulation) (g : HasNextInterval machine end s p) where
   abbrev shards : List ShardState
-  shards = map restarted (shards_in p.memory)
+  shards = map restarted p.recorder.world.shards
 
   first_shard : slice_get shards 0 ≡ Some (get_or shards 0 no_shard)
   first_shard = slice_get-get_or shards 0 no_shard g.come.stand.some
@@ -252,7 +251,7 @@ err_alike place (Err other) related = ap Err related
 -- the bound phase of the next interval, over the shards and on the machine
 module _ (machine : Machine) (image : MemoryImage) (end : ℕ) (s : RunState) (p : Simulation) (g : HasNextInterval machine end s p) (turns : List ℕ) where
   abbrev before : List ShardState
-  before = map restarted (shards_in p.memory)
+  before = map restarted p.recorder.world.shards
 
   abbrev shard_phase : Result (BoundState ShardWorld) ℕ
   shard_phase = bound_phase served.shards_serve (time_of machine) image end turns (history.begun_over_shards (cores_of p) before)
@@ -328,35 +327,35 @@ module _ (machine : Machine) (ok : IsMachine machine) (image : MemoryImage) (end
   -- ---- its shards
 
   abbrev was : List ShardState
-  was = map restarted (shards_in p.memory)
+  was = map restarted p.recorder.world.shards
 
   world_is : (after_history (time_of machine) image end (cores_of p) was b.left.entries).world ≡ b.left.world
   world_is =
-      let found = laws.histories (cores_of p) was turns b.left g.come.stand.some (All-map (λ (shard : ShardState). shard.last ≡ 0) restarted (shards_in p.memory) (λ k d below. refl)) b.phase in
+      let found = laws.histories (cores_of p) was turns b.left g.come.stand.some (All-map (λ (shard : ShardState). shard.last ≡ 0) restarted p.recorder.world.shards (λ k d below. refl)) b.phase in
       ap (λ (state : BoundState ShardWorld). state.world) (sym found.2)
 
   left_shards : length b.left.world.shards ≡ machine.l2.banks
   left_shards =
       ap (λ (w : ShardWorld). length w.shards) (sym world_is)
       ∙ each_many shard_after (bank_of_entry (length was)) b.left.entries was
-      ∙ length-map (shards_in p.memory) restarted ∙ g.come.banks
+      ∙ length-map p.recorder.world.shards restarted ∙ g.come.banks
 
-  shards_many : length (shards_in q.memory) ≡ machine.l2.banks
+  shards_many : length q.recorder.world.shards ≡ machine.l2.banks
   shards_many =
-      sym (length-map (shards_in q.memory) restarted) ∙ ap length b.shards_are ∙ length-map b.left.world.shards restarted ∙ left_shards
+      sym (length-map q.recorder.world.shards restarted) ∙ ap length b.shards_are ∙ length-map b.left.world.shards restarted ∙ left_shards
 
-  shards_placed : AreShardsOf machine.cores (shards_in q.memory) machine.memory.base machine.memory.size
+  shards_placed : AreShardsOf machine.cores q.recorder.world.shards machine.memory.base machine.memory.size
   shards_placed =
       let base = machine.memory.base in
       let size = machine.memory.size in
-      let began : AreShardsOf machine.cores was base size = shards_restarted machine.cores base size (shards_in p.memory) g.come.placed in
+      let began : AreShardsOf machine.cores was base size = shards_restarted machine.cores base size p.recorder.world.shards g.come.placed in
       let left : AreShardsOf machine.cores b.left.world.shards base size =
       subst (λ (w : ShardWorld). AreShardsOf machine.cores w.shards base size) world_is (shards_after machine.cores base size was began b.left.entries)
       in
-      whatever_stamps machine.cores base size (shards_in q.memory)
+      whatever_stamps machine.cores base size q.recorder.world.shards
       (subst (λ (shards : List ShardState). AreShardsOf machine.cores shards base size) (sym b.shards_are) (shards_restarted machine.cores base size b.left.world.shards left))
 
-  stands_next : StandForMachine next.cores (begun_world machine.cores (map restarted (shards_in q.memory))) (world_of machine next)
+  stands_next : StandForMachine next.cores (begun_world machine.cores (map restarted q.recorder.world.shards)) (world_of machine next)
   stands_next =
       let later = all_delayed i.delays came_to.cores in
       let left : ShardWorld = b.left.world in
@@ -389,10 +388,10 @@ module _ (machine : Machine) (ok : IsMachine machine) (image : MemoryImage) (end
       let over : All (IsOver end) came_to.cores = subst (All (IsOver end)) (sym cores_are) b.over in
       subst (λ (n : ℕ). All (IsOver n) next.cores) end_is (delayed_over end i.delays came_to.cores over)
 
-  pub leads_on : (r : Simulation) → cores_of r ≡ all_delayed i.delays (cores_of q) → AreNumbered r.cores.items → r.memory ≡ q.memory
+  pub leads_on : (r : Simulation) → cores_of r ≡ all_delayed i.delays (cores_of q) → AreNumbered r.cores.items → r.recorder ≡ q.recorder
       → r.comps ≡ comps_after comp_step i.events s.comps → r.counters ≡ added p.counters i r.comps
       → (leads : LeadsTo machine image s turns r) × (leads.entries ≡ entries)
-  leads_on r cores numbered memory comps counters =
+  leads_on r cores numbered recorder comps counters =
       let are_next : AreComponents machine r.comps = subst (AreComponents machine) (sym comps) are in
       let leads_to : LeadsTo machine image s turns r = record {
         state = next;
@@ -405,10 +404,10 @@ module _ (machine : Machine) (ok : IsMachine machine) (image : MemoryImage) (end
           cores = ap (all_delayed i.delays) cores_are ∙ sym cores;
           count = later_many;
           numbered = numbered;
-          stamps = subst (IsForMachine machine) (sym memory) b.stamps;
-          banks = ap (λ (m : Memory). length (shards_in m)) memory ∙ shards_many;
-          placed = subst (λ (m : Memory). AreShardsOf machine.cores (shards_in m) machine.memory.base machine.memory.size) (sym memory) shards_placed;
-          stand = subst (λ (m : Memory). StandForMachine next.cores (begun_world machine.cores (map restarted (shards_in m))) (world_of machine next)) (sym memory) stands_next;
+          stamps = subst (IsRecorderFor machine) (sym recorder) b.stamps;
+          banks = ap (λ (x : RecorderState). length x.world.shards) recorder ∙ shards_many;
+          placed = subst (λ (x : RecorderState). AreShardsOf machine.cores x.world.shards machine.memory.base machine.memory.size) (sym recorder) shards_placed;
+          stand = subst (λ (x : RecorderState). StandForMachine next.cores (begun_world machine.cores (map restarted x.world.shards)) (world_of machine next)) (sym recorder) stands_next;
           comps = comps;
           counters = counters ∙ summed machine ok end s p g i was_run few_events few laws.sums r.comps are_next ∙ ap (λ (parts : List Comp). counts_of machine.cores parts (s.intervals ++ i ∷ [])) comps;
           over = next_over;

@@ -1,5 +1,5 @@
 -- What the weave core by core asks of an interval that one worker has recorded.
-use Rattle.std.proofs.Common.{◌≡◌, ℕ, ◌*◌, ◌^◌, ◌-◌, ◌<◌, ◌≤◌, List, Option, Some, Bool, true, false, not, length, All, refl, sym, subst, ap, ◌∙◌, arith}
+use Rattle.std.proofs.Common.{◌≡◌, ◌^◌, ◌-◌, ◌<◌, ◌≤◌, List, Option, Some, length, All, sym, subst, ap, ◌∙◌, arith}
 use Rattle.std.specs.Prelude.{IfSome}
 use Rattle.zs_num.specs.declared.entry.Entry.{Entry}
 use Rattle.machine_desc.specs.declared.machine.Machine.{Machine}
@@ -19,13 +19,14 @@ use Rattle.weave_chains.specs.Listed.{one_after_other}
 use Rattle.weave_chains.specs.Rounds.{AreChained}
 use Rattle.weave_chains.specs.Woven.{AreOrdered, IsWoven}
 use Rattle.weave_chains.specs.declared.weave.Woven.{Woven}
-use Rattle.bound_phase.proofs.RecordedOrder.{all_recorded, length_recorded}
+use Rattle.bound_records.proofs.Lists.{length_recorded}
 use Rattle.bound_records.specs.CoreRuns.{IsNetOf}
 use Rattle.bound_records.specs.Recorders.{RecorderState, entries_of, kept_lists, recorded_kept}
 use Rattle.replay.specs.IntervalWeave.{IntervalsAreWoven, IsSoundWeave}
 use Rattle.replay.specs.Records.{IsRecorded, accesses_in, recorded_interval}
 use Rattle.replay.specs.ReferenceRun.{woven_interval}
 use Rattle.replay.proofs.GoneOn.{small_room}
+use Rattle.replay.proofs.RecordedOrder.{all_recorded}
 
 module _ (machine : Machine) (r : RecorderState) (rec : IsRecorded machine r) (net : Net) (is : IsNetOf machine net) where
   -- the accesses that make events, one core after the other, and the events of these

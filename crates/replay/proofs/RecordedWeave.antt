@@ -23,7 +23,7 @@ use Rattle.stats.specs.Counts.{Interval, comp_count_in}
 use Rattle.stats.specs.KnownCounts.{AreAccessCounts, AreEventCounts}
 use Rattle.weave_chains.specs.declared.weave.Woven.{Woven}
 use Rattle.weave_chains.specs.Woven.{IsWoven, interval_of}
-use Rattle.bound_phase.proofs.RecordedOrder.{length_recorded}
+use Rattle.bound_records.proofs.Lists.{length_recorded}
 use Rattle.bound_records.specs.CoreRuns.{IsNetOf}
 use Rattle.bound_records.specs.Counted.{count_of}
 use Rattle.bound_records.specs.Recorders.{RecorderState, counts_in, entries_of, kept_lists, recorded_kept}

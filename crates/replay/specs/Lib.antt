@@ -1,6 +1,5 @@
 pub mod Results
 pub mod Limits
-pub mod Memory
 pub mod ReferenceRun
 pub mod Replay
 pub mod IntervalWeave
@@ -9,3 +8,4 @@ pub mod Recording
 pub mod Records
 pub mod Simulation
 pub mod Laws
+pub mod Going

@@ -1,4 +1,4 @@
--- The weave of an interval of which one worker has kept records.
+-- The weave of an interval whose accesses are recorded.
 use Rattle.std.specs.Prelude.{◌≡◌, ℕ, ◌^◌, ◌<◌, ◌≤◌, List, length, slice_get, Some}
 use Rattle.std.specs.List.{All}
 use Rattle.zs_num.specs.declared.entry.Entry.{Entry}

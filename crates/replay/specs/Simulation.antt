@@ -1,6 +1,6 @@
 -- A run between two intervals as the code keeps it: its shards stand for memory and the caches, and its counts for the
 -- intervals, which it does not keep.
-use Rattle.std.specs.Prelude.{◌≡◌, ℕ, ◌+◌, ◌*◌, ◌^◌, ◌<◌, ◌≤◌, false, List, [], ◌∷◌, ◌++◌, length, map, slice_get, Some, Ok, All}
+use Rattle.std.specs.Prelude.{◌≡◌, ℕ, ◌+◌, ◌*◌, ◌^◌, ◌<◌, ◌≤◌, false, List, [], ◌∷◌, ◌++◌, length, map, slice_get, Option, None, Some, Ok, All, IfSome}
 use Rattle.zs_num.specs.declared.entry.Entry.{Entry}
 use Rattle.elf_load.specs.MemoryImage.{MemoryImage}
 use Rattle.machine_desc.specs.declared.machine.Machine.{Machine}
@@ -8,8 +8,6 @@ use Rattle.machine_desc.specs.Components.{component_count}
 use Rattle.component.specs.declared.comp.Comp.{Comp}
 use Rattle.component.specs.ComponentStep.{free_of}
 use Rattle.component.specs.Components.{AreComponents, AreFresh}
-use Rattle.event_graph.specs.declared.event.Event.{Event}
-use Rattle.event_graph.specs.declared.fired.Fired.{Fired}
 use Rattle.bound_core.specs.History.{begun_over_shards}
 use Rattle.bound_core.specs.MachineOfShards.{StandForMachine}
 use Rattle.bound_core.specs.ReferenceMachine.{BoundState, bound_phase}
@@ -23,19 +21,17 @@ use Rattle.stats.specs.Counts.{counts_of, total_accesses, total_events}
 use Rattle.stats.specs.Laws.{WasRun}
 use Rattle.bound_records.specs.CoreRuns.{AreNumbered, CanRunInterval}
 use Rattle.access_record.specs.Turns.{in_turns}
-use Rattle.access_record.specs.declared.turns.Turns.TheVariants.{CoreByCore}
-use Rattle.bound_records.specs.Recorders.{AreStampedInTurn, AreTakenIn, RecorderState}
+use Rattle.access_record.specs.declared.turns.Turns.{Turns}
+use Rattle.access_record.specs.declared.turns.Turns.TheVariants.{CoreByCore, Listed}
+use Rattle.bound_records.specs.Recorders.{AreStampedInTurn, IsRecorderFor, RecorderState, entries_of}
 use Rattle.bound_records.specs.declared.turns_fail.TurnsFail.{TurnsFail}
 use Rattle.bound_records.specs.declared.turns_fail.TurnsFail.TheVariants as turns_fail
-use Rattle.replay.specs.declared.memory.Memory.TheVariants as memory
 use Rattle.replay.specs.declared.replay_fail.ReplayFail.{ReplayFail}
 use Rattle.replay.specs.declared.replay_fail.ReplayFail.TheVariants as fail
 use Rattle.replay.specs.declared.recording.Recording.{Recording}
 use Rattle.replay.specs.declared.simulation.Simulation.{Simulation}
-use Rattle.replay.specs.IntervalWeave.{HaveFired}
 use Rattle.replay.specs.Records.{IsRecorded, accesses_in}
 use Rattle.replay.specs.Recording.{IsRecordingOf}
-use Rattle.replay.specs.Memory.{IsForMachine, shards_in}
 use Rattle.replay.specs.ReferenceRun.{RunState, access_room, after_interval, end_of, first_state, has_ended, recorded_turns, time_of, world_of, woven_interval}
 
 -- ---- cores and shards
@@ -46,7 +42,7 @@ cores_of p = timed_of p.cores.items
 
 -- the shards before the first access of an interval
 abbrev pub begun_shards : Machine → Simulation → ShardWorld
-begun_shards machine p = begun_world machine.cores (map restarted (shards_in p.memory))
+begun_shards machine p = begun_world machine.cores (map restarted p.recorder.world.shards)
 
 -- ---- between two intervals
 
@@ -63,9 +59,9 @@ pub record StandsFor (machine : Machine) (s : RunState) (p : Simulation) : Type 
   pub cores : s.cores ≡ cores_of p
   pub count : length s.cores ≡ machine.cores
   pub numbered : AreNumbered p.cores.items
-  pub stamps : IsForMachine machine p.memory
-  pub banks : length (shards_in p.memory) ≡ machine.l2.banks
-  pub placed : AreShardsOf machine.cores (shards_in p.memory) machine.memory.base machine.memory.size
+  pub stamps : IsRecorderFor machine p.recorder
+  pub banks : length p.recorder.world.shards ≡ machine.l2.banks
+  pub placed : AreShardsOf machine.cores p.recorder.world.shards machine.memory.base machine.memory.size
   pub stand : StandForMachine s.cores (begun_shards machine p) (world_of machine s)
   pub comps : p.comps ≡ s.comps
   pub counters : p.counters ≡ counts_of machine.cores s.comps s.intervals
@@ -89,9 +85,9 @@ pub record HasRoomForInterval (machine : Machine) (end : ℕ) (p : Simulation) :
   pub ready : (i : ℕ) (c : NumberedCore) → slice_get p.cores.items i ≡ Some c → CanRunInterval machine end (base_of (begun_shards machine p)) (size_of (begun_shards machine p)) (l1i_of (begun_shards machine p)) c.timed
   pub count : length p.cores.items ≡ machine.cores
   pub numbered : AreNumbered p.cores.items
-  pub stamps : IsForMachine machine p.memory
-  pub shards : AreShardsOf machine.cores (shards_in p.memory) machine.memory.base machine.memory.size
-  pub banks : length (shards_in p.memory) ≡ machine.l2.banks
+  pub stamps : IsRecorderFor machine p.recorder
+  pub shards : AreShardsOf machine.cores p.recorder.world.shards machine.memory.base machine.memory.size
+  pub banks : length p.recorder.world.shards ≡ machine.l2.banks
   pub free : All (λ c. free_of c ≤ 2 ^ 56) p.comps
   pub components : AreComponents machine p.comps
   pub cores : length p.counters.core_counts ≡ machine.cores
@@ -102,9 +98,9 @@ pub record HasRoomForInterval (machine : Machine) (end : ℕ) (p : Simulation) :
 pub record IsBoundPhase (machine : Machine) (image : MemoryImage) (end : ℕ) (before : Simulation) (turns : List ℕ) (after : Simulation) (entries : List Entry) : Type 0 where
   -- what it comes to
   pub left : BoundState ShardWorld
-  pub phase : bound_phase shards_serve (time_of machine) image end turns (begun_over_shards (cores_of before) (map restarted (shards_in before.memory))) ≡ Ok left
+  pub phase : bound_phase shards_serve (time_of machine) image end turns (begun_over_shards (cores_of before) (map restarted before.recorder.world.shards)) ≡ Ok left
   pub cores_are : cores_of after ≡ left.cores
-  pub shards_are : map restarted (shards_in after.memory) ≡ map restarted left.world.shards
+  pub shards_are : map restarted after.recorder.world.shards ≡ map restarted left.world.shards
   pub in_order : entries ≡ recorded_order left.entries
   pub cores : All (λ e. e.core < machine.cores) entries
   pub starts : All (λ e. e.start ≤ 2 ^ 34) entries
@@ -113,49 +109,27 @@ pub record IsBoundPhase (machine : Machine) (image : MemoryImage) (end : ℕ) (b
   pub count : length after.cores.items ≡ machine.cores
   pub numbered : AreNumbered after.cores.items
   pub over : All (IsOver end) (cores_of after)
-  pub stamps : IsForMachine machine after.memory
+  pub stamps : IsRecorderFor machine after.recorder
 
--- The run has the bound phase of its next interval behind it, under these turns and with these entries. No event has
--- fired, and nothing is counted.
-pub record HasBound (machine : Machine) (image : MemoryImage) (s : RunState) (turns : List ℕ) (p : Simulation) (entries : List Entry) : Type 0 where
-  pub end : ℕ
-  pub before : Simulation
-  pub goes_on : HasNextInterval machine end s before
-  pub bounded : IsBoundPhase machine image end before turns p entries
-  pub comps : p.comps ≡ before.comps
-  pub counters : p.counters ≡ before.counters
+-- the turns of a list, where there is one
+abbrev pub listed : Turns → Option (List ℕ)
+listed CoreByCore = None
+listed (Listed turns) = Some turns.now
 
--- The run has the bound phase of its next interval behind it, under these turns and with these entries, and the events
--- of these have fired.
-pub record HasFired (machine : Machine) (image : MemoryImage) (s : RunState) (turns : List ℕ) (p : Simulation) (entries : List Entry) (graph : List Event) (fired : List Fired) : Type 0 where
-  pub end : ℕ
-  pub before : Simulation
-  pub goes_on : HasNextInterval machine end s before
-  pub bounded : IsBoundPhase machine image end before turns p entries
-  pub woven : HaveFired machine before.comps entries graph fired p.comps
-  pub counters : p.counters ≡ before.counters
+-- the accesses in the order of a list of turns, or core by core where there is none
+abbrev pub taken_by : Option (List ℕ) → RecorderState → List Entry
+taken_by None r = entries_of r
+taken_by (Some turns) r = in_turns turns r.lists
 
--- The run has the bound phase of its next interval behind it, under these turns, by one worker, who has recorded it.
-pub record HasRecorded (machine : Machine) (image : MemoryImage) (end : ℕ) (before : Simulation) (turns : List ℕ) (after : Simulation) : Type 0 where
-  pub recorder : RecorderState
-  pub alone : after.memory ≡ memory.Alone recorder
-  pub bounded : IsBoundPhase machine image end before turns after (accesses_in recorder)
-  pub recorded : IsRecorded machine recorder
+-- The run has the bound phase of its next interval behind it, which is recorded. The cores ran by the turns of a list,
+-- or one after the other where there is none.
+pub record HasRecorded (machine : Machine) (image : MemoryImage) (end : ℕ) (before : Simulation) (turns : Option (List ℕ)) (after : Simulation) : Type 0 where
+  pub bounded : IsBoundPhase machine image end before (map (λ e. e.core) (taken_by turns after.recorder)) after (accesses_in after.recorder)
+  pub named : IfSome turns (λ cores. cores ≡ map (λ e. e.core) (taken_by turns after.recorder))
+  pub in_turn : AreStampedInTurn (taken_by turns after.recorder) after.recorder
+  pub recorded : IsRecorded machine after.recorder
   pub comps : after.comps ≡ before.comps
   pub counters : after.counters ≡ before.counters
-
--- The turns are those of the accesses in recorded order. The cores ran one after the other.
-pub record HasRecordedInOrder (machine : Machine) (image : MemoryImage) (end : ℕ) (before after : Simulation) : Type 0 where
-  pub turns : List ℕ
-  pub has : HasRecorded machine image end before turns after
-  pub in_order : turns ≡ map (λ e. e.core) (accesses_in has.recorder)
-  pub in_turn : AreTakenIn CoreByCore has.recorder
-
--- The cores ran by the turns.
-pub record HasRecordedUnder (machine : Machine) (image : MemoryImage) (end : ℕ) (before : Simulation) (turns : List ℕ) (after : Simulation) : Type 0 where
-  pub has : HasRecorded machine image end before turns after
-  pub named : turns ≡ map (λ e. e.core) (in_turns turns has.recorder.lists)
-  pub in_turn : AreStampedInTurn (in_turns turns has.recorder.lists) has.recorder
 
 -- why a replay fails whose turns of this interval do
 abbrev pub fail_of : (interval : ℕ) → TurnsFail → ReplayFail

@@ -3,14 +3,13 @@
 //! of a schedule, weaves each interval's events on one list, and delays the cores.
 #![tactic(auto)]
 
-mod alone;
 mod chains;
 mod firing;
 mod first_passes;
+mod interval;
 pub mod laws;
 mod limits;
 mod list_gate;
-mod memory;
 mod recording;
 mod records;
 mod replay_fail;

@@ -1,11 +1,10 @@
-//! The weave of an interval of whose accesses one worker has kept records.
+//! The weave of an interval whose accesses are recorded.
 ghost use Rattle.std.specs.Prelude.{◌≡◌, ◌*◌, ◌≤◌, ◌^◌, ◌++◌, ◌∷◌, [], All, List, map, IfNone, IfOk, IfSome, OnOk, false, true};
 ghost use Rattle.machine_desc.specs.Machine.{IsMachine};
 ghost use Rattle.component.specs.ComponentStep.{free_of};
 ghost use Rattle.component.specs.Components.{AreComponents};
 ghost use Rattle.component.specs.declared.comp.Comp.{Comp};
 ghost use Rattle.stats.specs.Counts.{Interval};
-ghost use Rattle.access_record.specs.declared.turns.Turns.TheVariants.{CoreByCore};
 ghost use Rattle.bound_records.specs.CoreRuns.{IsNetOf};
 ghost use Rattle.bound_records.specs.Recorders.{AreTakenIn};
 ghost use Rattle.replay.specs.IntervalWeave.{AreEventsOf, HaveFired};
@@ -32,17 +31,19 @@ use weave_seq::weave_seq;
 use zs_host::{Gate, OpenGate};
 use zs_num::{Entries, NoMemory};
 
-/// Fires the events of an interval's accesses by so many workers, who pass the gate before each.
-/// Moves the components on, counts the interval, and adds it to the recording. Answers the delays of
-/// the cores. `order` has the cores of the accesses in recorded order, `places` the domain of each
-/// component, and `domains_are_worth` says what it says to `fire_all`. One worker fires them core
-/// by core, as far as the order of the accesses does not matter, where no events are kept.
+/// Fires the events of an interval's accesses, which were made by these turns, by so many workers,
+/// who pass the gate before each. Moves the components on, counts the interval, and adds it to the
+/// recording. Answers the delays of the cores. `order` has the cores of the accesses in recorded
+/// order, `places` the domain of each component, and `domains_are_worth` says what it says to
+/// `fire_all`. One worker fires them core by core, as far as the order of the accesses does not
+/// matter, where no events are kept.
 pub fn weave_recorded<R: Threads + Sync, G: Gate>(
     rt: &R,
     alloc: Global,
     machine: &Machine,
     net: &Net,
     recorder: &Recorder,
+    turns: Turns<'_>,
     order: &[u16],
     comps: &mut Comps<Comp>,
     counters: &mut Counters,
@@ -57,7 +58,7 @@ pub fn weave_recorded<R: Threads + Sync, G: Gate>(
     requires machine { IsMachine machine.now }
     requires net { IsNetOf machine.now net.now }
     requires recorded { IsRecorded machine.now recorder.now }
-    requires turns { AreTakenIn CoreByCore recorder.now }
+    requires turns { AreTakenIn turns recorder.now }
     requires order { order.now ≡ map (λ e. e.core) (accesses_in recorder.now) }
     requires components { AreComponents machine.now comps.old }
     requires free { All (λ c. free_of c ≤ 2 ^ 56) comps.old }
@@ -88,6 +89,7 @@ pub fn weave_recorded<R: Threads + Sync, G: Gate>(
             machine,
             net,
             recorder,
+            turns,
             order,
             comps,
             counters,
@@ -171,6 +173,7 @@ fn weave_in_order<R: Threads + Sync, G: Gate>(
     machine: &Machine,
     net: &Net,
     recorder: &Recorder,
+    turns: Turns<'_>,
     order: &[u16],
     comps: &mut Comps<Comp>,
     counters: &mut Counters,
@@ -184,7 +187,7 @@ fn weave_in_order<R: Threads + Sync, G: Gate>(
     requires machine { IsMachine machine.now }
     requires net { IsNetOf machine.now net.now }
     requires recorded { IsRecorded machine.now recorder.now }
-    requires turns { AreTakenIn CoreByCore recorder.now }
+    requires turns { AreTakenIn turns recorder.now }
     requires order { order.now ≡ map (λ e. e.core) (accesses_in recorder.now) }
     requires components { AreComponents machine.now comps.old }
     requires free { All (λ c. free_of c ≤ 2 ^ 56) comps.old }
@@ -194,15 +197,7 @@ fn weave_in_order<R: Threads + Sync, G: Gate>(
     ensures recorded { OnOk result ((intervals : List Interval) → IsRecordingOf machine.now intervals recording.old → IsRecordingOf machine.now (intervals ++ recorded_interval machine.now comps.old recorder.now ∷ []) recording.new) }
     ensures on { is_on recording.new ≡ is_on recording.old }
 {
-    let graph = recorded_events(
-        alloc,
-        machine,
-        net,
-        recorder,
-        Turns::CoreByCore,
-        order,
-        comps,
-    )?;
+    let graph = recorded_events(alloc, machine, net, recorder, turns, order, comps)?;
     let fired = fire_all(
         rt,
         alloc,

@@ -1,13 +1,11 @@
 //! The run of an executable under a schedule that is handed in.
-ghost use Rattle.std.specs.Prelude.{◌≡◌, true, IfOk};
+ghost use Rattle.std.specs.Prelude.{◌≡◌, IfOk};
 ghost use Rattle.std.specs.List.{range_with_len};
 ghost use Rattle.machine_desc.specs.Machine.{IsMachine};
-ghost use Rattle.replay.specs.Memory.{is_alone};
 ghost use Rattle.replay.specs.Replay.{Replays};
 ghost use Rattle.replay.specs.Results.{HasCounts};
 ghost use Rattle.replay.specs.Simulation.{IsAtStart};
 
-use crate::memory::Memory;
 use crate::simulation::Simulation;
 use crate::under::interval_under;
 use crate::{Final, ReplayFail};
@@ -38,8 +36,7 @@ pub fn replay(
 {
     let places = component_domains(alloc, machine)?;
     let program = DecodedProgram::of(alloc, image)?;
-    let memory = Memory::for_workers(alloc, machine, image, 1)?;
-    let simulation = Simulation::new(alloc, machine, image, memory)?;
+    let simulation = Simulation::new(alloc, machine, image)?;
     replay_on(alloc, machine, &program, &places, simulation, schedule)
 }
 
@@ -54,7 +51,6 @@ fn replay_on(
 ) -> Result<Final, ReplayFail>
     requires machine { IsMachine machine.now }
     requires starts { IsAtStart machine.now program.now simulation }
-    requires alone { is_alone simulation.memory ≡ true }
     requires cores { schedule.now.cores ≡ machine.now.cores }
     ensures gives { Replays machine.now program.now schedule.now.lists result }
     ensures counted { IfOk result (HasCounts machine.now) }

@@ -1,5 +1,5 @@
 //! An interval of a run under a list of turns.
-ghost use Rattle.std.specs.Prelude.{◌≡◌, ◌*◌, ◌<◌, ◌≤◌, ◌^◌, ℕ, All, Err, IfErr, IfOk, OnOk, length, map, true};
+ghost use Rattle.std.specs.Prelude.{◌≡◌, ◌*◌, ◌<◌, ◌≤◌, ◌^◌, ℕ, All, Err, IfErr, IfOk, OnOk, Some, length, map};
 ghost use Rattle.machine_desc.specs.Machine.{IsMachine};
 ghost use Rattle.elf_load.specs.MemoryImage.{MemoryImage};
 ghost use Rattle.bound_core.specs.History.{begun_over_shards};
@@ -8,13 +8,11 @@ ghost use Rattle.bound_core.specs.ShardWorld.{restarted, shards_serve};
 ghost use Rattle.bound_records.specs.CoreRuns.{IsNetOf};
 ghost use Rattle.bound_records.specs.Intervals.{IfIllegalTurn};
 ghost use Rattle.replay.specs.declared.simulation.Simulation.{Simulation};
-ghost use Rattle.replay.specs.Memory.{is_alone, shards_in};
 ghost use Rattle.replay.specs.ReferenceRun.{RunState, after_interval, time_of};
 ghost use Rattle.replay.specs.Replay.{IfIllegal};
-ghost use Rattle.replay.specs.Simulation.{HasNextInterval, HasRecordedUnder, HasRoomForInterval, LeadsTo, cores_of, fail_of};
+ghost use Rattle.replay.specs.Simulation.{HasNextInterval, HasRecorded, HasRoomForInterval, LeadsTo, cores_of, fail_of};
 
 use crate::ReplayFail;
-use crate::memory::Memory;
 use crate::records::weave_replayed;
 use crate::simulation::{Simulation, delay_all};
 use crate::weaving::intervals_are_woven;
@@ -27,9 +25,9 @@ use std::alloc::Global;
 use weave_chains::ChainBuffers;
 use zs_num::{Cycle, NoMemory};
 
-/// Runs this interval, which ends at cycle `end`, 10 * 2^30 at most, under a list of turns, in a
-/// run whose memory one worker has alone. `places` has the domain of each component. Answers the run
-/// after the interval, or the first place of the turns that is not legal.
+/// Runs this interval, which ends at cycle `end`, 10 * 2^30 at most, under a list of turns. `places`
+/// has the domain of each component. Answers the run after the interval, or the first place of the
+/// turns that is not legal.
 pub fn interval_under(
     simulation: Simulation,
     alloc: Global,
@@ -47,10 +45,8 @@ pub fn interval_under(
     requires end { end ≤ 10 * 2 ^ 30 }
     requires known { All (λ number. number < machine.now.cores) turns.now }
     requires few { length turns.now < 2 ^ 32 }
-    requires alone { is_alone simulation.memory ≡ true }
     requires room { HasRoomForInterval machine.now end simulation }
     requires goes_on { (s : RunState) × HasNextInterval machine.now end s simulation }
-    ensures alone { IfOk result (λ p. is_alone p.memory ≡ true) }
     ensures leads { IfOk result (λ p. (s : RunState) → HasNextInterval machine.now end s simulation → LeadsTo machine.now program.now s turns.now p) }
     ensures illegal { IfErr result (λ fail. IfIllegal fail (λ at. (at.interval ≡ interval) × ((s : RunState) → HasNextInterval machine.now end s simulation → after_interval machine.now program.now s turns.now ≡ Err (record { interval = length s.intervals; place = at.place })))) }
 {
@@ -82,8 +78,8 @@ fn fail_in(interval: u32, fail: TurnsFail) -> ReplayFail
     }
 }
 
-/// The bound phase of an interval under a list of turns, of whose accesses the memory then has the
-/// records.
+/// The bound phase of an interval under a list of turns, of whose accesses the simulation then has
+/// the records.
 fn bound_under(
     simulation: Simulation,
     machine: &Machine,
@@ -97,24 +93,20 @@ fn bound_under(
     requires end { end ≤ 10 * 2 ^ 30 }
     requires known { All (λ number. number < machine.now.cores) turns.now }
     requires few { length turns.now < 2 ^ 32 }
-    requires alone { is_alone simulation.memory ≡ true }
     requires room { HasRoomForInterval machine.now end simulation }
-    ensures recorded { IfOk result (HasRecordedUnder machine.now program.now end simulation turns.now) }
-    ensures illegal { IfErr result (λ fail. IfIllegalTurn fail (λ place. bound_phase shards_serve (time_of machine.now) program.now end turns.now (begun_over_shards (cores_of simulation) (map restarted (shards_in simulation.memory))) ≡ Err place)) }
+    ensures recorded { IfOk result (HasRecorded machine.now program.now end simulation (Some turns.now)) }
+    ensures illegal { IfErr result (λ fail. IfIllegalTurn fail (λ place. bound_phase shards_serve (time_of machine.now) program.now end turns.now (begun_over_shards (cores_of simulation) (map restarted simulation.recorder.world.shards)) ≡ Err place)) }
 {
     let Simulation {
         mut cores,
-        memory,
+        recorder,
         comps,
         counters,
     } = simulation;
-    let Memory::Alone(recorder) = memory else {
-        unreachable!()
-    };
     match recorder.run_under(machine, program, net, end, turns, &mut cores) {
         Ok(recorder) => Ok(Simulation {
             cores,
-            memory: Memory::Alone(recorder),
+            recorder,
             comps,
             counters,
         }),
@@ -134,9 +126,8 @@ fn weave_under(
 ) -> Result<(), NoMemory>
     requires machine { IsMachine machine.now }
     requires net { IsNetOf machine.now net.now }
-    requires recorded { (image : MemoryImage) × (end : ℕ) × (before : Simulation) × (s : RunState) × HasNextInterval machine.now end s before × HasRecordedUnder machine.now image end before turns.now simulation.old }
-    ensures leads { OnOk result ((image : MemoryImage) (end : ℕ) (before : Simulation) (s : RunState) → HasNextInterval machine.now end s before → HasRecordedUnder machine.now image end before turns.now simulation.old → LeadsTo machine.now image s turns.now simulation.new) }
-    ensures alone { OnOk result (is_alone simulation.new.memory ≡ true) }
+    requires recorded { (image : MemoryImage) × (end : ℕ) × (before : Simulation) × (s : RunState) × HasNextInterval machine.now end s before × HasRecorded machine.now image end before (Some turns.now) simulation.old }
+    ensures { OnOk result ((image : MemoryImage) (end : ℕ) (before : Simulation) (s : RunState) → HasNextInterval machine.now end s before → HasRecorded machine.now image end before (Some turns.now) simulation.old → LeadsTo machine.now image s turns.now simulation.new) }
 {
     stats::laws::counters_are_sums();
     stats::laws::sums_fit();
@@ -144,14 +135,11 @@ fn weave_under(
     bound_core::laws::phases_are_histories();
     bound_core::laws::intervals_begin();
     intervals_are_woven();
-    let Memory::Alone(recorder) = &simulation.memory else {
-        unreachable!()
-    };
     let delays = weave_replayed(
         alloc,
         machine,
         net,
-        recorder,
+        &simulation.recorder,
         Turns::Listed(turns),
         &mut simulation.comps,
         &mut simulation.counters,

@@ -14,6 +14,8 @@ mod gates;
 #[cfg(test)]
 mod given;
 #[cfg(test)]
+mod paces;
+#[cfg(test)]
 mod requests;
 #[cfg(test)]
 mod tested;

@@ -1,33 +1,48 @@
 //! A thousand rounds of jobs, by crews of none to three workers.
-ghost use Rattle.std.specs.Prelude.{◌≡◌, ◌<◌, IfOk, vec_len};
+ghost use Rattle.std.specs.Prelude.{◌≡◌, ◌+◌, ◌*◌, ◌<◌, ◌≤◌, IfOk, length, vec_len};
+ghost use Rattle.std.specs.Thread.{IsSync};
+ghost use Rattle.crew.specs.Crews.{free_seats};
 
 use super::adding::Adding;
-use crew::{Asker, Crew, Lead, Post, do_all};
+use crew::{Asker, Crew, Post, Worker, do_all, end_all, run_beside};
 use std::alloc::Global;
 use std::process::Abort;
 use std::sync::Wait;
 use std::thread::Threads;
 use zs_num::NoMemory;
 
-/// Who has each number added to a thousand times.
-#[derive(Drop)]
-struct Rounds<'a, R: Wait> {
-    rt: &'a R,
-    numbers: Vec<Adding>,
+/// Has each number added to a thousand times, and ends the workers at these posts.
+fn add_rounds<R: Wait>(
+    rt: &R,
+    posts: &[Post<Adding>],
+    askers: &mut [Asker<Adding>],
+    numbers: &mut Vec<Adding>,
+)
+    requires free { askers.old ≡ free_seats posts.now }
+    requires few { vec_len numbers.old ≤ length posts.now + 1 }
+{
+    for _ in 0..1000u32 {
+        do_all(rt, posts, askers, numbers);
+    }
+    end_all(posts, askers);
 }
 
-impl<'a, R: Wait> Lead<Adding> for Rounds<'a, R> {
-    ghost use Rattle.std.specs.Prelude.{◌≡◌, ◌≤◌, ◌+◌, vec_len};
-
-    ghost can = { λ lead workers. vec_len lead.numbers ≤ workers + 1 };
-
-    ghost led = { λ old new. vec_len new.numbers ≡ vec_len old.numbers };
-
-    fn lead(&mut self, posts: &[Post<Adding>], askers: &mut [Asker<Adding>]) {
-        for _ in 0..1000u32 {
-            do_all(self.rt, posts, askers, &mut self.numbers);
-        }
-    }
+/// The same, beside these workers.
+fn add_beside<R: Threads + Wait + Sync>(
+    rt: &R,
+    posts: &[Post<Adding>],
+    askers: &mut [Asker<Adding>],
+    workers: &mut [Worker<Adding>],
+    numbers: &mut Vec<Adding>,
+)
+    requires free { askers.old ≡ free_seats posts.now }
+    requires workers { workers.old ≡ free_seats posts.now }
+    requires few { vec_len numbers.old ≤ length posts.now + 1 }
+{
+    let mut lead = ||
+        requires { IsSync R.row × (askers.now ≡ free_seats posts.now) × (vec_len numbers.now ≤ length posts.now + 1) }
+    { add_rounds(rt, posts, askers, numbers) };
+    run_beside(rt, posts, workers, &mut lead);
 }
 
 /// So many zeros.
@@ -49,13 +64,14 @@ fn adds<R: Threads + Wait + Sync>(
 ) -> Result<Vec<Adding>, NoMemory>
     requires { workers < 4 }
 {
-    let crew = Crew::hire(alloc, workers)?;
-    let mut lead = Rounds {
-        rt,
-        numbers: zeros(alloc, workers + 1)?,
-    };
-    crew.run(rt, &mut lead);
-    Ok(lead.numbers)
+    let mut numbers = zeros(alloc, workers + 1)?;
+    let Crew {
+        posts,
+        mut askers,
+        workers: mut hands,
+    } = Crew::hire(alloc, workers)?;
+    add_beside(rt, &posts, &mut askers, &mut hands, &mut numbers);
+    Ok(numbers)
 }
 
 /// Checks that each number was added to a thousand times.

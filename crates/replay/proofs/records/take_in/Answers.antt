@@ -8,7 +8,7 @@ use Rattle.event_graph.specs.OneListWeave.{comps_after}
 use Rattle.stats.specs.Added.{added}
 use Rattle.stats.specs.Counts.{Interval}
 use Rattle.stats.specs.CountsFit.{CountsFit}
-use Rattle.bound_phase.proofs.RecordedOrder.{length_recorded}
+use Rattle.bound_records.proofs.Lists.{length_recorded}
 use Rattle.bound_records.specs.Counted.{count_of}
 use Rattle.bound_records.specs.Recorders.{counts_in, entries_of}
 use Rattle.replay.specs.Records.{accesses_in, recorded_interval}

@@ -1,6 +1,6 @@
 use Rattle.std.proofs.Common.{List, arith}
 use Rattle.component.specs.declared.comp.Comp.{Comp}
-use Rattle.bound_phase.proofs.RecordedOrder.{length_recorded}
+use Rattle.bound_records.proofs.Lists.{length_recorded}
 use Rattle.bound_records.specs.Recorders.{entries_of}
 use Rattle.replay.specs.IntervalWeave.{HaveFired}
 use Rattle.replay.specs.Records.{accesses_in}

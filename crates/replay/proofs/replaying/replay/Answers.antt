@@ -1,6 +1,5 @@
-use Rattle.std.proofs.Common.{ap, sym, subst, ◌∙◌}
+use Rattle.std.proofs.Common.{sym, subst}
 use Rattle.elf_load.specs.MemoryImage.{MemoryImage}
-use Rattle.replay.specs.Memory.{is_alone}
 use Rattle.replay.specs.Replay.{Replays}
 use Rattle.replay.specs.Simulation.{IsAtStart}
 use Rattle.replay.specs.declared.replay_fail.ReplayFail.TheVariants as fail
@@ -15,20 +14,13 @@ pub returns-in_err-program-clause-gives : goal.returns-in_err-program-clause-giv
 returns-in_err-program-clause-gives c =
     replay_failed c.args.machine.now c.args.image.now c.args.schedule.now.lists fail.NoMemory c.from_residual-in_err-program.result c.from_residual-in_err-program.ensures.1 tt
 
-pub returns-in_err-memory-clause-gives : goal.returns-in_err-memory-clause-gives
-returns-in_err-memory-clause-gives c =
-    replay_failed c.args.machine.now c.args.image.now c.args.schedule.now.lists fail.NoMemory c.from_residual-in_err-memory.result c.from_residual-in_err-memory.ensures.1 tt
-
 pub returns-in_err-simulation-clause-gives : goal.returns-in_err-simulation-clause-gives
 returns-in_err-simulation-clause-gives c =
     replay_failed c.args.machine.now c.args.image.now c.args.schedule.now.lists fail.NoMemory c.from_residual-in_err-simulation.result c.from_residual-in_err-simulation.ensures.1 tt
 
 pub replay_on-requires-clause-starts : goal.replay_on-requires-clause-starts
 replay_on-requires-clause-starts c =
-    subst (λ (i : MemoryImage). IsAtStart c.args.machine.now i c.in_ok-simulation.simulation) (sym c.in_ok-program.ensures) c.in_ok-simulation.ensures.starts
-
-pub replay_on-requires-clause-alone : goal.replay_on-requires-clause-alone
-replay_on-requires-clause-alone c = ap is_alone c.in_ok-simulation.ensures.memory ∙ c.in_ok-memory.ensures.alone
+    subst (λ (i : MemoryImage). IsAtStart c.args.machine.now i c.in_ok-simulation.simulation) (sym c.in_ok-program.ensures) c.in_ok-simulation.ensures
 
 pub returns-clause-gives : goal.returns-clause-gives
 returns-clause-gives c =

@@ -31,7 +31,6 @@ loop-alloc-init c =
       small = omega arith;
       within = omega arith;
       accesses = omega (arith, accesses);
-      alone = c.requires.alone;
     }
 
 pub interval_under-requires-clause-room : goal.interval_under-requires-clause-room
@@ -121,7 +120,6 @@ loop-alloc-preserved c =
       small = omega (arith, was.small, c.requires.machine.interval);
       within = omega (arith, below);
       accesses = omega (arith, accesses, leads.come.counted.accesses);
-      alone = c.in_ok-simulation.ensures.alone;
     }
 
 -- the schedule ends, and the run goes on

@@ -1,7 +1,6 @@
 -- the run has come to where the first intervals of the schedule lead
-use Rattle.std.proofs.Common.{◌≡◌, ◌≤◌, ◌-◌, ◌*◌, ◌^◌, true, length, take}
+use Rattle.std.proofs.Common.{◌≡◌, ◌≤◌, ◌-◌, ◌*◌, ◌^◌, length, take}
 use Rattle.bound_records.specs.CoreRuns.{IsNetOf}
-use Rattle.replay.specs.Memory.{is_alone}
 use Rattle.replay.proofs.RunSoFar.{HasRun}
 use Rattle.replay.proofs.replaying.replay_on.Given as goal
 
@@ -14,7 +13,6 @@ invariant-loop-alloc l = record {
   small : l.end ≤ 10000 * l.k;
   within : l.k ≤ l.machine.intervals;
   accesses : l.simulation.counters.accesses ≤ 2 ^ 26;
-  alone : is_alone l.simulation.memory ≡ true;
 }
 
 abbrev pub decreases-loop-alloc : goal.decreases-loop-alloc

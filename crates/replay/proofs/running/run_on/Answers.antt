@@ -27,7 +27,9 @@ loop-alloc-init g c =
         };
         in_order = c.requires.empty;
       };
-      net = c.of-net.ensures;
+      pace = omega (arith, c.here-pace.ensures, c.min.ensures, c.requires.workers.1);
+      enough = omega (arith, c.here-pace.ensures, c.min.ensures, c.requires.posts);
+      askers = refl;
       count = none;
       end = omega arith;
       small = omega arith;
@@ -73,8 +75,8 @@ returns-clause-numbered g c =
     let h = c.loop-alloc.invariant.ran.run in
     numbered_results c.args.machine.now h.state c.loop-alloc.simulation h.come c.results.result c.results.ensures.numbers
 
-pub interval-requires-clause-room : goal.interval-requires-clause-room
-interval-requires-clause-room g c κs within =
+pub run_interval-requires-clause-room : goal.run_interval-requires-clause-room
+run_interval-requires-clause-room g c κs within =
     let was = c.loop-alloc.invariant in
     let machine = c.args.machine.now in
     let image = c.args.program.now in
@@ -83,14 +85,14 @@ interval-requires-clause-room g c κs within =
     let on = goes machine image c.loop-alloc.schedule.lists p was.ran.run c.loop-alloc.k c.loop-alloc.end was.count was.end (sym c.has_ended.ensures ∙ running) in
     has_room machine (c.loop-alloc.end + machine.interval) was.ran.run.state p on
 
-pub interval-requires-clause-goes_on : goal.interval-requires-clause-goes_on
-interval-requires-clause-goes_on g c κs within =
+pub run_interval-requires-clause-goes_on : goal.run_interval-requires-clause-goes_on
+run_interval-requires-clause-goes_on g c κs within =
     let was = c.loop-alloc.invariant in
     let running : c.has_ended.result ≡ false = search rules in
     (was.ran.run.state, goes c.args.machine.now c.args.program.now c.loop-alloc.schedule.lists c.loop-alloc.simulation was.ran.run c.loop-alloc.k c.loop-alloc.end was.count was.end (sym c.has_ended.ensures ∙ running))
 
-pub interval-requires-clause-recording : goal.interval-requires-clause-recording
-interval-requires-clause-recording g c κs within =
+pub run_interval-requires-clause-recording : goal.run_interval-requires-clause-recording
+run_interval-requires-clause-recording g c κs within =
     let was = c.loop-alloc.invariant in
     let h = was.ran.run in
     let few : length h.state.intervals < 2 ^ 32 - 1 = omega (arith, h.as_long, was.count, was.within, c.requires.machine.intervals.1) in
@@ -143,7 +145,9 @@ loop-alloc-preserved g c =
     let accesses = accesses_are machine leads.state q leads.come in
     record {
       ran = ran_so machine image (lists ++ turns ∷ []) c.push.new.self.lists q (sym added) ran;
-      net = was.net;
+      pace = omega (arith, was.pace, c.in_ok-next.ensures.pace);
+      enough = omega (arith, was.enough, c.in_ok-next.ensures.pace);
+      askers = c.in_ok-next.ensures.askers ∙ was.askers;
       count = omega (arith, ap length added, length-append lists (turns ∷ []), was.count);
       end = omega (arith, was.end);
       small = omega (arith, was.small, c.requires.machine.interval);

@@ -2,7 +2,6 @@ use Rattle.std.proofs.Common.{◌≡◌, ℕ, Err, length, map, refl, sym, subst
 use Rattle.bound_core.specs.History.{begun_over_shards}
 use Rattle.bound_core.specs.ReferenceMachine.{bound_phase}
 use Rattle.bound_core.specs.ShardWorld.{restarted, shards_serve}
-use Rattle.replay.specs.Memory.{shards_in}
 use Rattle.replay.specs.ReferenceRun.{Illegal, RunState, after_interval, time_of}
 use Rattle.replay.specs.Replay.{IfIllegal}
 use Rattle.replay.specs.Simulation.{HasNextInterval, cores_of}
@@ -22,7 +21,7 @@ returns-in-Err-clause-illegal c =
     let turns = c.args.turns.now in
     let before = c.args.simulation in
     let Found : (place : ℕ) → Type 0 = λ place.
-    bound_phase shards_serve (time_of machine) image end turns (begun_over_shards (cores_of before) (map restarted (shards_in before.memory))) ≡ Err place
+    bound_phase shards_serve (time_of machine) image end turns (begun_over_shards (cores_of before) (map restarted before.recorder.world.shards)) ≡ Err place
     in
     let Place : Illegal → Type 0 = λ at.
     (at.interval ≡ c.args.interval) × ((s : RunState) → HasNextInterval machine end s before → after_interval machine image s turns ≡ Err (record { interval = length s.intervals; place = at.place }))

@@ -1,0 +1,260 @@
+//! An interval of a run.
+ghost use Rattle.std.specs.Prelude.{◌≡◌, ◌+◌, ◌*◌, ◌<◌, ◌≤◌, ◌^◌, ℕ, All, IfOk, OnOk, length, vec_len};
+ghost use Rattle.std.specs.Option.{option_map};
+ghost use Rattle.crew.specs.Crews.{free_seats};
+ghost use Rattle.machine_desc.specs.Machine.{IsMachine};
+ghost use Rattle.elf_load.specs.MemoryImage.{MemoryImage};
+ghost use Rattle.bound_records.specs.CoreRuns.{IsNetOf};
+ghost use Rattle.replay.specs.declared.simulation.Simulation.{Simulation};
+ghost use Rattle.replay.specs.Recording.{IsRecordingSoFar, is_on};
+ghost use Rattle.replay.specs.ReferenceRun.{RunState};
+ghost use Rattle.replay.specs.Simulation.{HasGoneOn, HasNextInterval, HasRecorded, HasRoomForInterval, listed};
+
+use crate::Recording;
+use crate::records::weave_recorded;
+use crate::simulation::{Simulation, delay_all};
+use crate::weaving::intervals_are_woven;
+use access_record::Turns;
+use bound_core::BoundCore;
+use bound_workers::{Share, WorkBuffers, bound_by};
+use crew::{Asker, Post};
+use machine_desc::Machine;
+use noc_mesh::Net;
+use rv_blocks::DecodedProgram;
+use stats::CoreCount;
+use std::alloc::Global;
+use std::sync::Wait;
+use std::thread::Threads;
+use weave_chains::ChainBuffers;
+use worker_pace::{Load, Pace};
+use zs_host::Gate;
+use zs_num::{Cycle, NoMemory};
+
+/// Runs the interval that ends at cycle `end`, 10 * 2^30 at most: first each core to the interval's
+/// end, by as many workers as the pace says, or by all where the gate is to be passed. Then so many
+/// workers weave, as `weave_recorded` says. The recording gains the interval's events, and the pace
+/// learns what the interval had. Answers the run after the interval, and the cores of the
+/// interval's accesses in recorded order.
+pub fn run_interval<'a, R: Threads + Wait + Sync, G: Gate>(
+    simulation: Simulation,
+    rt: &'a R,
+    alloc: Global,
+    machine: &'a Machine,
+    program: &'a DecodedProgram<'a>,
+    net: &'a Net,
+    end: Cycle,
+    pace: &mut Pace,
+    workers: u16,
+    gate: &'a G,
+    posts: &[Post<Share<'a, R, G>>],
+    askers: &mut [Asker<Share<'a, R, G>>],
+    places: &[u16],
+    domains_are_worth: &mut bool,
+    recording: &mut Recording,
+    chain_buffers: &mut ChainBuffers,
+    buffers: &mut WorkBuffers,
+) -> Result<(Simulation, Vec<u16>), NoMemory>
+    requires pace { (pace.old ≤ 64) × (pace.old ≤ length posts.now + 1) }
+    requires askers { askers.old ≡ free_seats posts.now }
+    requires workers { (1 ≤ workers) × (workers ≤ 64) }
+    requires machine { IsMachine machine.now }
+    requires net { IsNetOf machine.now net.now }
+    requires end { end ≤ 10 * 2 ^ 30 }
+    requires room { HasRoomForInterval machine.now end simulation }
+    requires recording { IsRecordingSoFar machine.now recording.old }
+    requires goes_on { (s : RunState) × HasNextInterval machine.now end s simulation }
+    ensures goes_on { IfOk result (λ r. (s : RunState) → HasNextInterval machine.now end s simulation → HasGoneOn machine.now program.now s r.1.items recording.old recording.new r.0) }
+    ensures on { is_on recording.new ≡ is_on recording.old }
+    ensures cores { IfOk result (λ r. All (λ number. number < machine.now.cores) r.1.items) }
+    ensures few { IfOk result (λ r. vec_len r.1 < 2 ^ 32) }
+    ensures pace { pace.new ≡ pace.old }
+    ensures askers { askers.new ≡ askers.old }
+{
+    let before = instructions_of(&simulation.cores);
+    let runners = runners(pace, gate);
+    let (mut simulation, list) = bound_all(
+        simulation, rt, alloc, machine, program, net, end, runners, gate, posts, askers, buffers,
+    )?;
+    let instructions = instructions_of(&simulation.cores).saturating_sub(before);
+    pace.learn(runners, load_of(instructions, simulation.recorder.counts()));
+    let cores = weave_all(
+        &mut simulation,
+        rt,
+        alloc,
+        machine,
+        net,
+        turns_of(&list),
+        workers,
+        gate,
+        places,
+        domains_are_worth,
+        recording,
+        chain_buffers,
+    )?;
+    Ok((simulation, cores))
+}
+
+/// How many workers run the cores: as many as the pace says, or all where the gate is to be passed.
+fn runners<G: Gate>(pace: &Pace, gate: &G) -> u16
+    ensures some { 1 ≤ result }
+    ensures most { result ≤ pace.now }
+{
+    if gate.is_open() {
+        pace.workers()
+    } else {
+        pace.all()
+    }
+}
+
+/// How many instructions were counted of all cores, or the greatest number where they are more.
+fn instructions_of(cores: &[BoundCore]) -> u64 {
+    let mut sum: u64 = 0;
+    for core in cores {
+        sum = sum.saturating_add(core.instructions());
+    }
+    sum
+}
+
+/// So many instructions, and the accesses that were counted. Of each the greatest number where they
+/// are more.
+fn load_of(instructions: u64, counts: &[CoreCount]) -> Load {
+    let mut own: u64 = 0;
+    let mut upgrades: u64 = 0;
+    let mut others: u64 = 0;
+    for count in counts {
+        own = own.saturating_add(count.hits);
+        upgrades = upgrades.saturating_add(count.upgrades);
+        others = others.saturating_add(count.l2hits);
+        others = others.saturating_add(count.misses);
+    }
+    let shared = others.saturating_add(upgrades);
+    Load {
+        instructions,
+        accesses: own.saturating_add(shared),
+        shared,
+        upgrades,
+    }
+}
+
+/// The bound phase of an interval, of whose accesses the simulation then has the records. The cores
+/// ran by the turns of the list that it answers, or one after the other where it answers none.
+fn bound_all<'a, R: Wait + Sync, G: Gate>(
+    simulation: Simulation,
+    rt: &'a R,
+    alloc: Global,
+    machine: &'a Machine,
+    program: &'a DecodedProgram<'a>,
+    net: &'a Net,
+    end: Cycle,
+    workers: u16,
+    gate: &'a G,
+    posts: &[Post<Share<'a, R, G>>],
+    askers: &mut [Asker<Share<'a, R, G>>],
+    buffers: &mut WorkBuffers,
+) -> Result<(Simulation, Option<Vec<u16>>), NoMemory>
+    requires machine { IsMachine machine.now }
+    requires net { IsNetOf machine.now net.now }
+    requires end { end ≤ 10 * 2 ^ 30 }
+    requires workers { (1 ≤ workers) × (workers ≤ 64) × (workers ≤ length posts.now + 1) }
+    requires askers { askers.old ≡ free_seats posts.now }
+    requires room { HasRoomForInterval machine.now end simulation }
+    ensures recorded { IfOk result (λ r. HasRecorded machine.now program.now end simulation (option_map (λ list. list.items) r.1) r.0) }
+    ensures askers { askers.new ≡ askers.old }
+{
+    let Simulation {
+        mut cores,
+        recorder,
+        comps,
+        counters,
+    } = simulation;
+    if workers == 1 {
+        let recorder = recorder.run(alloc, machine, program, net, end, gate, &mut cores)?;
+        let simulation = Simulation {
+            cores,
+            recorder,
+            comps,
+            counters,
+        };
+        return Ok((simulation, None));
+    }
+    let (cores, recorder, turns) = bound_by(
+        rt, alloc, machine, program, net, end, workers, gate, posts, askers, cores, recorder,
+        buffers,
+    )?;
+    let simulation = Simulation {
+        cores,
+        recorder,
+        comps,
+        counters,
+    };
+    Ok((simulation, Some(turns)))
+}
+
+/// The turns of a list, or core by core where there is none.
+fn turns_of(list: &Option<Vec<u16>>) -> Turns<'_>
+    ensures { listed result ≡ option_map (λ list. list.items) list.now }
+{
+    match list {
+        Some(list) => Turns::Listed(list),
+        None => Turns::CoreByCore,
+    }
+}
+
+/// The weave of an interval that is recorded, and whose accesses were made by these turns. Answers
+/// the cores of its accesses in recorded order.
+fn weave_all<R: Threads + Sync, G: Gate>(
+    simulation: &mut Simulation,
+    rt: &R,
+    alloc: Global,
+    machine: &Machine,
+    net: &Net,
+    turns: Turns<'_>,
+    workers: u16,
+    gate: &G,
+    places: &[u16],
+    domains_are_worth: &mut bool,
+    recording: &mut Recording,
+    chain_buffers: &mut ChainBuffers,
+) -> Result<Vec<u16>, NoMemory>
+    requires workers { (1 ≤ workers) × (workers ≤ 64) }
+    requires machine { IsMachine machine.now }
+    requires net { IsNetOf machine.now net.now }
+    requires recording { IsRecordingSoFar machine.now recording.old }
+    requires recorded { (image : MemoryImage) × (end : ℕ) × (before : Simulation) × (s : RunState) × HasNextInterval machine.now end s before × HasRecorded machine.now image end before (listed turns) simulation.old }
+    ensures goes_on { IfOk result (λ cores. (image : MemoryImage) (end : ℕ) (before : Simulation) (s : RunState) → HasNextInterval machine.now end s before → HasRecorded machine.now image end before (listed turns.entry) simulation.old → HasGoneOn machine.now image s cores.items recording.old recording.new simulation.new) }
+    ensures on { is_on recording.new ≡ is_on recording.old }
+    ensures cores { IfOk result (λ cores. All (λ number. number < machine.now.cores) cores.items) }
+    ensures few { IfOk result (λ cores. vec_len cores < 2 ^ 32) }
+{
+    stats::laws::counters_are_sums();
+    stats::laws::sums_fit();
+    access_log::laws::stamps_rise();
+    access_log::laws::recorded_order_keeps_the_stamps();
+    access_log::laws::cores_decide_the_order();
+    bound_core::laws::histories_are_phases();
+    bound_core::laws::recorded_order_is_a_history();
+    bound_core::laws::shards_do_as_the_machine();
+    bound_core::laws::phases_are_histories();
+    bound_core::laws::intervals_begin();
+    intervals_are_woven();
+    let cores = simulation.recorder.recorded_cores(alloc, turns)?;
+    let delays = weave_recorded(
+        rt,
+        alloc,
+        machine,
+        net,
+        &simulation.recorder,
+        turns,
+        &cores,
+        &mut simulation.comps,
+        &mut simulation.counters,
+        workers,
+        gate,
+        places,
+        domains_are_worth,
+        recording,
+        chain_buffers,
+    )?;
+    delay_all(&mut simulation.cores, delays.as_slice());
+    Ok(cores)
+}

@@ -1,0 +1,97 @@
+//! What intervals had, and how long they take.
+
+/// How long a worker takes for an instruction, in tenths of a nanosecond.
+const INSTRUCTION: u64 = 13;
+
+/// And for an access that its core's own cache serves.
+const ACCESS: u64 = 60;
+
+/// How much longer one takes that this cache does not serve, where one worker has all caches.
+const SHARED_ALONE: u64 = 800;
+
+/// And where several workers share them.
+const SHARED_AMONG: u64 = 2000;
+
+/// How much longer all wait for one that is made only because cores run beside each other: it takes
+/// a line from a core that would use it on.
+const TAKEN_AWAY: u64 = 50_000;
+
+/// And for one that ends what other cores may do with a line.
+const UPGRADE: u64 = 5_000;
+
+/// How long it takes to put an access in order among those of other workers.
+const ORDERED: u64 = 40;
+
+/// How long it takes to set several workers to an interval, and to wait for the last of them.
+const GATHERING: u64 = 100_000;
+
+/// What an interval has, or a mean of some.
+#[derive(Drop)]
+pub struct Load {
+    /// How many instructions.
+    pub instructions: u64,
+    /// How many accesses.
+    pub accesses: u64,
+    /// How many of these the cores' own caches do not serve.
+    pub shared: u64,
+    /// How many of them are upgrades: the core has the line, and others lose it.
+    pub upgrades: u64,
+}
+
+impl Load {
+    /// Nothing.
+    pub(crate) const NONE: Load = Load {
+        instructions: 0,
+        accesses: 0,
+        shared: 0,
+        upgrades: 0,
+    };
+
+    /// A mean that has gone on by an interval, which has a quarter of it.
+    pub(crate) fn gone_on(&self, next: &Load) -> Load {
+        Load {
+            instructions: mean(self.instructions, next.instructions),
+            accesses: mean(self.accesses, next.accesses),
+            shared: mean(self.shared, next.shared),
+            upgrades: mean(self.upgrades, next.upgrades),
+        }
+    }
+
+    /// How long one worker takes for it.
+    pub(crate) fn time_alone(&self) -> u64 {
+        sum(self.own(), product(self.shared, SHARED_ALONE))
+    }
+
+    /// How long several take on so many processors, where one worker had that other load.
+    pub(crate) fn time_among(&self, processors: u16, alone: &Load) -> u64 {
+        let shared = product(self.shared, SHARED_AMONG);
+        let beside = sum(self.own(), shared) / u64::from(processors.max(1));
+        let taken_away = product(self.shared.saturating_sub(alone.shared), TAKEN_AWAY);
+        let upgrades = product(self.upgrades, UPGRADE);
+        let ordered = sum(product(self.accesses, ORDERED), GATHERING);
+        sum(sum(beside, upgrades), sum(taken_away, ordered))
+    }
+
+    /// How long a worker takes for it without what is shared.
+    fn own(&self) -> u64 {
+        sum(
+            product(self.instructions, INSTRUCTION),
+            product(self.accesses, ACCESS),
+        )
+    }
+}
+
+/// The sum, or the greatest number where it is greater.
+fn sum(a: u64, b: u64) -> u64 {
+    a.saturating_add(b)
+}
+
+/// The product, or the greatest number where it is greater.
+fn product(a: u64, b: u64) -> u64 {
+    a.saturating_mul(b)
+}
+
+/// A mean that has gone on by a number, which has a quarter of it.
+fn mean(so_far: u64, next: u64) -> u64 {
+    sum(so_far - so_far / 4, next / 4)
+}
