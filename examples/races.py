@@ -1,14 +1,18 @@
 #!/usr/bin/env python3
-"""Runs programs whose cores race, each core on a thread of its own, and replays each run.
+"""Runs programs whose cores race, by several workers, and replays each run.
 
     examples/races.py           makes 1,000 runs
     examples/races.py RUNS      makes so many
 
-The programs are c/lock.elf, c/histogram.elf and c/queue.elf in turn, on the desktop of four cores, but with 1 MiB of
-memory: a run is over in less time than it takes to clear 128 MiB. The order of accesses is that in which the threads
-come to the caches. Whatever it is, each core exits with 0, by which the program says that its result is right, and the
-replay of the recorded schedule writes the bytes that the run wrote. A program whose runs all have one schedule shows
-nothing of races, so that is a fault too.
+The programs are those of c/ in turn, by 2, 3 and 4 workers, on the desktop of four cores with intervals of 20, 50, 100
+and 10,000 cycles, but with 1 MiB of memory: a run is over in less time than it takes to clear 128 MiB. The order of
+accesses is that in which the workers come to the caches. Whatever it is, the replay of the recorded schedule writes the
+bytes that the run wrote. Where the cores share the work of a program, each exits with 0, by which the program says that
+its result is right, and the runs of such a program have more than one schedule, or they show nothing of races. The
+other programs are not made for several cores, which write to the same bytes as they come; 2,000 intervals of each are
+run.
+
+Before these, 64 workers run programs on the 64 cores of machines/tiles.toml by two processors, and are replayed.
 
 As many runs go on beside each other as there are processors. They run the program that the variable ZSIM names, or that
 of this checkout, which is proved and built first if it has to be. Status 0 says that no run had a fault. What a run
@@ -28,10 +32,21 @@ from pathlib import Path
 
 HERE = Path(__file__).resolve().parent
 TOP = HERE.parent
-DESKTOP = HERE / "machines/desktop.toml"
+MACHINES = HERE / "machines"
 CORES = 4
-PROGRAMS = ["lock", "histogram", "queue"]
+SHARED = ["counter", "histogram", "lock", "matrix", "queue", "sum"]
+PROGRAMS = sorted(path.stem for path in (HERE / "c").glob("*.elf"))
+WORKERS = [2, 3, 4]
+INTERVALS = [20, 50, 100, 10000]
 RUNS = 1000
+
+# Where more workers run than processors, on more cores.
+CROWD = ["histogram", "lock", "queue"]
+CROWD_CORES = 64
+CROWD_PROCESSORS = 2
+
+# How a call ends whose run comes to the last of its intervals.
+AT_LIMIT = 3
 
 # A run takes milliseconds, and more on a busy machine. After so many seconds it is taken to wait for ever.
 PATIENCE = 60
@@ -54,51 +69,82 @@ def program():
     return TOP / "crates/zsim_main/out/zsim_main"
 
 
-def small_desktop(folder):
-    """Writes the description of the desktop with 1 MiB of memory, and returns its name."""
-    text = re.sub(r"(?m)^size = .*$", "size = 0x100000", DESKTOP.read_text(encoding="utf-8"))
-    name = folder / "desktop.toml"
-    name.write_text(text, encoding="utf-8")
-    return name
+def changed(name, folder, **values):
+    """Writes the description of a machine with other values of some keys, and returns its name."""
+    text = (MACHINES / f"{name}.toml").read_text(encoding="utf-8")
+    for key, value in values.items():
+        text, count = re.subn(rf"(?m)^{key} = .*$", f"{key} = {value}", text)
+        if count != 1:
+            sys.exit(f"races: nothing was run: {name} has {count} lines of {key}")
+    path = folder / f"{name}-{'-'.join(str(value) for value in values.values())}.toml"
+    path.write_text(text, encoding="utf-8")
+    return path
 
 
-def call(output, *words):
-    """Calls zsim with its standard output in a file, and returns what it wrote."""
+def call(output, words, statuses, processors=None):
+    """Calls zsim with its standard output in a file, on so many processors at most. Returns its status, which is one of
+    these, and what it wrote."""
+    def few():
+        os.sched_setaffinity(0, sorted(os.sched_getaffinity(0))[:processors])
+
     with open(output, "wb") as out:
         try:
             ended = subprocess.run(
-                words, stdin=subprocess.DEVNULL, stdout=out, stderr=subprocess.PIPE, timeout=PATIENCE, check=False
+                words, stdin=subprocess.DEVNULL, stdout=out, stderr=subprocess.PIPE, timeout=PATIENCE, check=False,
+                preexec_fn=few if processors and hasattr(os, "sched_setaffinity") else None,
             )
         except subprocess.TimeoutExpired:
             raise Fault(f"the {words[1]} had not ended after {PATIENCE} seconds") from None
-    if ended.returncode != 0:
+    if ended.returncode not in statuses:
         line = ended.stderr.decode(errors="replace").strip()
         raise Fault(f"the {words[1]} ended with status {ended.returncode}: {line}")
-    return output.read_bytes()
+    return ended.returncode, output.read_bytes()
 
 
-def race(zsim, machine, name, folder):
+def race(zsim, machine, name, workers, folder, cores=CORES, processors=None):
     """Makes a run and its replay, and returns the hash of the schedule."""
     folder.mkdir()
+    shared = name in SHARED
+    statuses = [0] if shared else [0, AT_LIMIT]
     words, schedule = [machine, HERE / f"c/{name}.elf"], folder / "schedule"
-    ran = call(folder / "run", zsim, "run", *words, "--workers", str(CORES), "--record", schedule)
-    halts = re.findall(rb"(?m)^core \d+ instructions .* halt (.*)$", ran)
-    if halts != [b"exit 0"] * CORES:
+    run = [zsim, "run", *words, "--workers", str(workers), "--record", schedule]
+    ran = call(folder / "run", run, statuses, processors)
+    halts = re.findall(rb"(?m)^core \d+ instructions .* halt (.*)$", ran[1])
+    if shared and halts != [b"exit 0"] * cores:
         raise Fault(f"the cores halted by {b', '.join(halts).decode()}")
-    if call(folder / "replay", zsim, "replay", *words, "--schedule", schedule) != ran:
+    replay = [zsim, "replay", *words, "--schedule", schedule]
+    if call(folder / "replay", replay, statuses, processors) != ran:
         raise Fault("the replay wrote another report")
     found = hashlib.sha256(schedule.read_bytes()).digest()
     shutil.rmtree(folder)
     return found
 
 
+def crowd(zsim, folder):
+    """Has many workers run on few processors, and returns the faults."""
+    machine, faults = changed("tiles", folder, size="0x800000", interval=100), []
+    for name in CROWD:
+        place = folder / f"crowd-{name}"
+        try:
+            race(zsim, machine, name, CROWD_CORES, place, cores=CROWD_CORES, processors=CROWD_PROCESSORS)
+        except Fault as fault:
+            faults.append(f"{name} by {CROWD_CORES} workers: {fault} ({place})")
+    return faults
+
+
 def races(zsim, runs, folder):
     """Makes the runs. Returns the schedules of each program, and the faults."""
     schedules, faults = {name: set() for name in PROGRAMS}, []
-    machine = small_desktop(folder)
+    whole = [changed("desktop", folder, size="0x100000", interval=cycles) for cycles in INTERVALS]
+    begun = [changed("desktop", folder, size="0x100000", interval=cycles, intervals=2000) for cycles in INTERVALS]
     with ThreadPoolExecutor(os.cpu_count()) as pool:
-        places = [(PROGRAMS[number % len(PROGRAMS)], folder / str(number)) for number in range(runs)]
-        made = [(name, place, pool.submit(race, zsim, machine, name, place)) for name, place in places]
+        made = []
+        for number in range(runs):
+            round_of, program_of = divmod(number, len(PROGRAMS))
+            name, place = PROGRAMS[program_of], folder / str(number)
+            machine = (whole if name in SHARED else begun)[round_of // len(WORKERS) % len(INTERVALS)]
+            workers = WORKERS[round_of % len(WORKERS)]
+            made.append((name, place, pool.submit(race, zsim, machine, name, workers, place)))
         try:
             for name, place, run in made:
                 try:
@@ -119,10 +165,12 @@ def main():
     runs, zsim = int(words[0]), program()
     began = time.monotonic()
     folder = Path(tempfile.mkdtemp(prefix="zsim-races-"))
-    schedules, faults = races(zsim, runs, folder)
+    faults = crowd(zsim, folder)
+    schedules, found = races(zsim, runs, folder)
+    faults += found
     if not faults:
         shutil.rmtree(folder)
-        faults = [f"{name}: its runs all have one schedule" for name, found in schedules.items() if len(found) < 2]
+        faults = [f"{name}: its runs all have one schedule" for name in SHARED if len(schedules[name]) < 2]
     for fault in faults:
         print(f"races: {fault}")
     if faults:

@@ -907,6 +907,9 @@ class Cases:
         if kind in ("race", "count", "owners", "meet", "again"):
             self.cuts = {}
             return None
+        if kind == "rounds":
+            self.cuts = {}
+            return f"{rest.split()[0]} the same\n"
         ended = self.ended(kind, rest)
         return None if ended is None else ended.text()
 
@@ -1098,7 +1101,7 @@ def stored_answers(cases, text):
     lines, answers = text.splitlines(keepends=True), []
     for case in cases:
         kind, count = case.split(" ", 1)[0], 1
-        is_line = kind in ("#", "describe", "show", "find", "kept", "events") or kind == "again" and lines[0] == "the same\n"
+        is_line = kind in ("#", "describe", "show", "find", "kept", "events", "rounds") or kind == "again" and lines[0] == "the same\n"
         if kind in ("hold", "set", "cut", "anew", "out", "err"):
             count = 0
         elif not is_line:

@@ -32,6 +32,8 @@
 //!   gate.
 //! - `sure WORDS`: a call over files and streams that never fail.
 //! - `again WORDS`: a call, and whether it answers what the last one did.
+//! - `rounds N WORDS : WORDS`: so many times a call past a gate that isn't open, and one behind it;
+//!   how many of these answer what the one before did.
 //! - `find TEXT`: how many lines of the last answer end with this text.
 //! - `kept MACHINE EXE SCHEDULE`: what the last call kept, and whether these names hold it; `events
 //!   NAME`: the same of a file of events.

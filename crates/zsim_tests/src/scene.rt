@@ -69,6 +69,7 @@ impl Scene {
             "count" => self.write_counts(rt, alloc, rest, false, page),
             "owners" => self.write_counts(rt, alloc, rest, true, page),
             "again" => self.write_again(rt, alloc, rest, page),
+            "rounds" => self.write_rounds(rt, alloc, rest, page),
             "sure" => self.write_sure(rt, alloc, rest, page),
             "find" => self.last.as_ref()?.write_found(rest, page),
             "kept" => self.write_kept(alloc, rest, page),
@@ -276,6 +277,43 @@ impl Scene {
         write_compared(self.last.as_ref()?, self.before.as_ref()?, page);
         self.last = self.before.take();
         Some(())
+    }
+
+    /// Writes how many of so many calls answer what the call before each did. The line has how many,
+    /// the words of the calls before, which go past a gate that isn't open, and those of the others.
+    fn write_rounds(
+        &mut self,
+        rt: &(impl Threads + Wait + Sync),
+        alloc: Global,
+        rest: &str,
+        page: &mut Page,
+    ) -> Option<()> {
+        let (count, words) = parted(rest);
+        let rounds = count.parse::<u64>().ok()?;
+        let (first, second) = words.split_once(" : ")?;
+        let mut same = 0u64;
+        for _ in 0..rounds {
+            let is_same = self.is_answered_again(rt, alloc, first, second)?;
+            same = same.saturating_add(u64::from(is_same));
+        }
+        page.number(same);
+        page.line(" the same");
+        Some(())
+    }
+
+    /// Whether a call answers what one does before it, which goes past a gate that isn't open.
+    fn is_answered_again(
+        &mut self,
+        rt: &(impl Threads + Wait + Sync),
+        alloc: Global,
+        first: &str,
+        second: &str,
+    ) -> Option<bool> {
+        let gate = CountingGate::new();
+        self.call(rt, alloc, first, CaseGate::Counting(&gate))?;
+        self.before = self.last.take();
+        self.call(rt, alloc, second, CaseGate::Open)?;
+        Some(self.last.as_ref()?.is_as(self.before.as_ref()?))
     }
 
     /// Writes what a call answers over files and streams that never fail. Of the names, those among
