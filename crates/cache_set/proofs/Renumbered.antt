@@ -93,7 +93,7 @@ module _ (ages : List ℕ) where
   none_up_to_free (zero ∷ xs) = rw (free_is_not 0) (none_up_to_free xs)
   none_up_to_free (suc x ∷ xs) = rw (not_up_to 0 (suc x) (omega arith)) (none_up_to_free xs)
 
-  rank_of_free : rank_in ages 0 ≡ 0
+  pub rank_of_free : rank_in ages 0 ≡ 0
   rank_of_free = sym (as_counted (is_up_to 0) ages) ∙ none_up_to_free ages
 
 -- ---- other ages in the same order

@@ -10,7 +10,7 @@ use Rattle.cache_set.specs.Pieces.{AreAgedSets, IsSameOrder, piece, pieces, sets
 use Rattle.cache_set.specs.Ways.{kept_of, without, used, filled, changed, victim_of}
 use Rattle.cache_set.proofs.Filled.{filled_is, no_victim, the_victim}
 use Rattle.cache_set.proofs.Pieces.{length_piece, length_pieces, piece_get, piece_is, piece_other, piece_put, pieces_put, pieces_same, within_pieces}
-use Rattle.cache_set.proofs.Renumbered.{aged_anew, live_anew, ranks_are_few, same_order}
+use Rattle.cache_set.proofs.Renumbered.{aged_anew, live_anew, rank_at, rank_of_free, ranks_are_few, same_order}
 use Rattle.cache_set.proofs.Rows.{aged_free, aged_put}
 use Rattle.cache_set.proofs.WaysByAge.{changed_at, kept_at, kept_first_at, kept_none, used_at, without_at, without_none}
 
@@ -303,6 +303,25 @@ live_after {sets} {ways} {tick} {ages} {tags} are anew order p l live =
     elim (order s.0 s.2) as (λ _. 0 < get_or anew p 0) [
       | inl e ↦ omega (arith, live, before, after, ap (λ (q : List ℕ). get_or q s.1 0) e)
       | inr e ↦ omega (arith, after, ap (λ (q : List ℕ). get_or q s.1 0) e, live_anew (piece ways s.0 ages) s.1 (omega (arith, s.3, (are.aged s.0 s.2).ages_are)) (omega (arith, live, before)))
+    ]
+
+-- a way that has an age then had one before
+pub live_before : {sets ways tick : ℕ} {ages tags : List ℕ} (are : AreAgedSets sets ways tick ages tags) (anew : List ℕ) → IsSameOrder sets ways ages anew
+    → (p : ℕ) → p < sets * ways → 0 < get_or anew p 0 → 0 < get_or ages p 0
+unfolding Stands
+live_before {sets} {ways} {tick} {ages} {tags} are anew order p l live =
+    let s = stands sets ways p l in
+    let old = piece ways s.0 ages in
+    let before = piece_get ways s.0 s.1 p ages 0 s.3 s.4 in
+    let after = piece_get ways s.0 s.1 p anew 0 s.3 s.4 in
+    elim (order s.0 s.2) as (λ _. 0 < get_or ages p 0) [
+      | inl e ↦ omega (arith, live, before, after, ap (λ (q : List ℕ). get_or q s.1 0) e)
+      | inr e ↦
+          let rank = rank_at (rank_in old) old s.1 (omega (arith, s.3, (are.aged s.0 s.2).ages_are)) in
+          elim (cases_eq (get_or ages p 0) 0) as (λ _. 0 < get_or ages p 0) [
+            | inl free ↦ absurd (omega (arith, live, after, ap (λ (q : List ℕ). get_or q s.1 0) e, rank, ap (rank_in old) (before ∙ free), rank_of_free old))
+            | inr some ↦ omega (arith, some)
+          ]
     ]
 
 -- ages that were written anew are few

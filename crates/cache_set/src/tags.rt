@@ -138,6 +138,7 @@ impl Tags {
         ensures had { slice_index self.old.tags.items result.place ≡ result.had }
         ensures within { result.place < self.old.sets * self.old.ways }
         ensures way { result.way < self.old.ways }
+        ensures place { result.place ≡ set_number_in shards self.old.sets line * self.old.ways + result.way }
         ensures sets { self.new.sets ≡ self.old.sets }
         ensures ways { self.new.ways ≡ self.old.ways }
     {

@@ -8,13 +8,14 @@ use Rattle.cache_set.specs.Pieces.{IsSameOrder, sets_in}
 use Rattle.cache_set.specs.Places.{IsNext, StandsAt, StandsNowhere, set_number_in}
 use Rattle.cache_set.specs.Ways.{kept_of, used, filled, changed, victim_of}
 use Rattle.cache_set.proofs.Pieces.{within_pieces}
-use Rattle.cache_set.proofs.SetsInArrays.{aged_sets_anew, sets_anew}
-use Rattle.cache_set.proofs.StepsInArrays.{aged_filled, aged_used_at, n_within, next_free, next_full, nowhere_kept, sets_changed, sets_filled, sets_used, somewhere_kept, stands_next, within_all}
+use Rattle.cache_set.proofs.SetsInArrays.{absent_where_none, aged_sets_anew, live_after, live_before, sets_anew}
+use Rattle.cache_set.proofs.StepsInArrays.{aged_filled, aged_used_at, n_within, next_free, next_full, nowhere_kept, set_is, sets_changed, sets_filled, sets_used, somewhere_kept, stands_next, within_all}
 use Rattle.home.specs.declared.met.Last.{Last}
 use Rattle.home.specs.declared.row.Row.{Row}
 use Rattle.flat_memory.specs.declared.reservation.Reservation.{Reservation}
 use Rattle.home.specs.HomeState.{HomeLine, HomeState, nobody}
-use Rattle.home.specs.Layout.{AreHome}
+use Rattle.home.specs.Layout.{AreHome, AreKnown}
+use Rattle.home.proofs.KnownWays.{known_anew, known_used}
 use Rattle.home.specs.RowChunks.{IsChanged, unheld}
 use Rattle.home.specs.Rows.{line_in}
 
@@ -46,7 +47,7 @@ same_home number {shards} {s} {base} {b} {size} {z} {ways} {w} {sets} {l} {bytes
     ∙ (ap (λ (x : List ℕ). home_with number s b z w x marks l) e5
     ∙ ap (λ (x : List (Option Reservation)). home_with number s b z w y x l) e6)))))
 
-module _ {shards below base sets ways tick : ℕ} {ages tags : List ℕ} {rows : List Row} {last : Option Last} (h : AreHome shards below base sets ways tick ages tags rows last) where
+module _ {number shards below base sets ways tick : ℕ} {ages tags : List ℕ} {rows : List Row} {last : Option Last} {known : List ℕ} (h : AreHome number shards below base sets ways tick ages tags rows last known) where
   abbrev lines : List HomeLine
   lines = map line_in rows
 
@@ -70,7 +71,7 @@ module _ {shards below base sets ways tick : ℕ} {ages tags : List ℕ} {rows :
     stands_anew line p at =
         stands_next h.ways_are.aged age anew order long later (set_number_in shards sets line) line p (n_within h.ways_are.aged h.sets_are.0 shards line lines lines_are nobody) at
 
-    pub home_anew : AreHome shards below base sets ways (age - 1) anew tags rows None
+    pub home_anew : AreHome number shards below base sets ways (age - 1) anew tags rows None known
     home_anew = record {
       shards_are = h.shards_are;
       sets_are = h.sets_are;
@@ -83,10 +84,11 @@ module _ {shards below base sets ways tick : ℕ} {ages tags : List ℕ} {rows :
       };
       rows_are = h.rows_are;
       last_is = tt;
+      known_are = known_anew h.ways_are.aged h.sets_are.0 h.known_are anew (live_before h.ways_are.aged anew order) (live_after h.ways_are.aged anew order);
     }
 
   -- ---- a row is another
-  pub with_row : (p : ℕ) (row : Row) → AreHome shards below base sets ways tick ages tags (set rows p row) last
+  pub with_row : (p : ℕ) (row : Row) → AreHome number shards below base sets ways tick ages tags (set rows p row) last known
   with_row p row = record {
     shards_are = h.shards_are;
     sets_are = h.sets_are;
@@ -94,6 +96,7 @@ module _ {shards below base sets ways tick : ℕ} {ages tags : List ℕ} {rows :
     ways_are = h.ways_are;
     rows_are = length-set rows p row ∙ h.rows_are;
     last_is = h.last_is;
+    known_are = h.known_are;
   }
 
   module _ (line : ℕ) where
@@ -124,7 +127,7 @@ module _ {shards below base sets ways tick : ℕ} {ages tags : List ℕ} {rows :
       pub used_there : (age : ℕ) → tick < age → sets_in sets ways (set ages p age) tags lines ≡ in_set_of shards line (used line) lists
       used_there age later = sets_used h.ways_are.aged h.sets_are.0 shards line lines lines_are nobody p at age later
 
-      pub home_used : (age : ℕ) → tick < age → age < 2 ^ 62 → AreHome shards below base sets ways age (set ages p age) tags rows (Some (record { line = line; place = Some p }))
+      pub home_used : (age : ℕ) → tick < age → age < 2 ^ 62 → AreHome number shards below base sets ways age (set ages p age) tags rows (Some (record { line = line; place = Some p })) known
       home_used age later early = record {
         shards_are = h.shards_are;
         sets_are = h.sets_are;
@@ -137,6 +140,7 @@ module _ {shards below base sets ways tick : ℕ} {ages tags : List ℕ} {rows :
           live = subst (λ (a : ℕ). 0 < a) (sym (get_or-set_same ages p age 0 (omega (arith, p_within, h.rows_are, h.ways_are.aged.ages_are)))) (omega (arith, later));
           tag = at.tag;
         };
+        known_are = known_used h.ways_are.aged h.sets_are.0 h.known_are p age at.live (omega (arith, p_within, h.rows_are, h.ways_are.aged.ages_are)) (omega (arith, later));
       }
 
       -- its row is another, which a change makes of it
@@ -178,9 +182,16 @@ module _ {shards below base sets ways tick : ℕ} {ages tags : List ℕ} {rows :
           ap (λ (l : List HomeLine). sets_in sets ways (set ages p age) (set tags p line) l) (map-set line_in rows p row ∙ ap (set lines p) is)
           ∙ sets_filled h.ways_are.aged h.sets_are.0 shards line lines lines_are nobody p some next age nobody later
 
-      pub home_filled : (age : ℕ) (row : Row) → tick < age → age < 2 ^ 62 → kept_of line now ≡ None
-          → AreHome shards below base sets ways age (set ages p age) (set tags p line) (set rows p row) (Some (record { line = line; place = Some p }))
-      home_filled age row later early none = record {
+      pub absent : kept_of line now ≡ None → StandsNowhere ways ages tags (set_number_in shards sets line) line
+      absent none = record {
+        nowhere = absent_where_none h.ways_are.aged (set_number_in shards sets line) (n_within h.ways_are.aged h.sets_are.0 shards line lines lines_are nobody) line lines lines_are nobody
+            (sym (ap (kept_of line) (set_is h.ways_are.aged h.sets_are.0 shards line lines lines_are nobody)) ∙ none);
+      }
+
+      pub home_filled : (age : ℕ) (row : Row) (then : List ℕ) → tick < age → age < 2 ^ 62 → kept_of line now ≡ None
+          → AreKnown number shards below sets ways (set ages p age) (set tags p line) then
+          → AreHome number shards below base sets ways age (set ages p age) (set tags p line) (set rows p row) (Some (record { line = line; place = Some p })) then
+      home_filled age row then later early none are = record {
         shards_are = h.shards_are;
         sets_are = h.sets_are;
         below_are = h.below_are;
@@ -197,6 +208,7 @@ module _ {shards below base sets ways tick : ℕ} {ages tags : List ℕ} {rows :
           live = subst (λ (a : ℕ). 0 < a) (sym (get_or-set_same ages p age 0 (omega (arith, next_within, h.ways_are.aged.ages_are)))) (omega (arith, later));
           tag = get_or-set_same tags p line 0 (omega (arith, next_within, h.ways_are.aged.tags_are));
         };
+        known_are = are;
       }
 
 -- the row of a line is changed, if the line is there
@@ -204,7 +216,7 @@ abbrev pub in_row : (shards line : ℕ) → (HomeLine → HomeLine) → List (Li
 in_row shards line change l = in_set_of shards line (λ found. option_map_or (λ row. changed line (change row) found) (kept_of line found) found) l
 
 -- two changes one after the other
-module _ {shards below base sets ways tick : ℕ} {ages tags : List ℕ} {rows : List Row} {last : Option Last} (h : AreHome shards below base sets ways tick ages tags rows last) (line p : ℕ)
+module _ {number shards below base sets ways tick : ℕ} {ages tags : List ℕ} {rows : List Row} {last : Option Last} {known : List ℕ} (h : AreHome number shards below base sets ways tick ages tags rows last known) (line p : ℕ)
     (at : StandsAt ways ages tags (set_number_in shards sets line) line p) where
   pub row_changed_twice : (was mid to : Row) (first second : HomeLine → HomeLine) → was ≡ get_or rows p was → line_in mid ≡ first (line_in was) → line_in to ≡ second (line_in mid)
       → sets_in sets ways ages tags (map line_in (set rows p to)) ≡ in_row shards line second (in_row shards line first (lists h))

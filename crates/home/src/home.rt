@@ -10,7 +10,7 @@ ghost use Rattle.home.specs.Rows.{evicted_in, line_in};
 use crate::filling::{count_lines, first_bytes};
 use crate::lines::Lines;
 use crate::marks::Marks;
-use crate::met::{Last, Met, find, remember};
+use crate::met::{Dealt, Last, Met, find};
 use crate::row::Row;
 use crate::rows::Rows;
 use cache_set::{Tags, next_age, number_in_shard};
@@ -26,10 +26,6 @@ use zs_num::{LINE, NoMemory};
 /// are old.
 #[derive(Drop)]
 pub struct Home {
-    number: u16,
-    shards: u64,
-    /// How many of the bank's lines lie below memory.
-    below: u64,
     base: u64,
     size: u64,
     ways: Tags,
@@ -45,9 +41,9 @@ impl Model for Home {
 
     ghost Value = { HomeState };
 
-    ghost view = { λ h. home_view h.number h.shards h.base h.size h.ways.sets h.ways.ways h.ways.ages.items h.ways.tags.items h.rows h.bytes h.marks };
+    ghost view = { λ h. home_view h.met.dealt.number h.met.dealt.shards h.base h.size h.ways.sets h.ways.ways h.ways.ages.items h.ways.tags.items h.rows h.bytes h.marks };
 
-    ghost invariant = { λ h. AreHome h.shards h.below h.base h.ways.sets h.ways.ways h.ways.tick h.ways.ages.items h.ways.tags.items h.rows h.met.last };
+    ghost invariant = { λ h. AreHome h.met.dealt.number h.met.dealt.shards h.met.dealt.below h.base h.ways.sets h.ways.ways h.ways.tick h.ways.ages.items h.ways.tags.items h.rows h.met.last h.met.known.items };
 }
 
 impl Home {
@@ -73,18 +69,20 @@ impl Home {
         let tags = Tags::new(alloc, sets, ways)?;
         let rows = Rows::new(alloc, sets as usize * usize::from(ways))?;
         let bytes = first_bytes(alloc, u64::from(shards), number, image)?;
-        let guesses = vec![in alloc; 0; count_lines(shards, image) as usize]?;
+        let known = vec![in alloc; 0; count_lines(shards, image) as usize]?;
         Ok(Home {
-            number,
-            shards: u64::from(shards),
-            below: image.base() / LINE / u64::from(shards),
             base: image.base(),
             size: image.size(),
             ways: tags,
             rows,
             met: Met {
+                dealt: Dealt {
+                    number,
+                    shards: u64::from(shards),
+                    below: image.base() / LINE / u64::from(shards),
+                },
                 last: None,
-                guesses,
+                known,
             },
             bytes,
             marks: Marks::new(alloc, cores)?,
@@ -97,7 +95,7 @@ impl Home {
     pub fn row(&self, line: u64) -> Option<Row>
         ensures { option_map line_in result ≡ row_at self.now line }
     {
-        match find(&self.ways, &self.met, self.shards, self.below, line) {
+        match find(&self.ways, &self.met, line) {
             Some(place) => Some(*self.rows.at(place)),
             None => None,
         }
@@ -111,7 +109,7 @@ impl Home {
         ensures value { result ≡ is_member nat_eq (row_of self.old line).sharers core }
         ensures same { self.new ≡ self.old }
     {
-        let place = find(&self.ways, &self.met, self.shards, self.below, line);
+        let place = find(&self.ways, &self.met, line);
         self.met.last = Some(Last { line, place });
         if let Some(place) = place {
             return self.rows.at(place).sharers.has(core);
@@ -126,7 +124,7 @@ impl Home {
         ensures used { IfSome result (λ _. self.new ≡ looked_up_in line self.old) }
         ensures same { IfNone result (self.new ≡ self.old) }
     {
-        match find(&self.ways, &self.met, self.shards, self.below, line) {
+        match find(&self.ways, &self.met, line) {
             Some(place) => {
                 let age = next_age(
                     &mut self.ways.ages,
@@ -150,7 +148,7 @@ impl Home {
     pub fn victim(&self, line: u64) -> Option<(u64, Row)>
         ensures { option_map evicted_in result ≡ evicted_by self.now line }
     {
-        match self.ways.victim(self.shards, line) {
+        match self.ways.victim(self.met.dealt.shards, line) {
             Some(place) => Some((self.ways.tags[place], *self.rows.at(place))),
             None => None,
         }
@@ -164,12 +162,11 @@ impl Home {
         ensures evicted { option_map evicted_in result ≡ evicted_by self.old line }
         ensures after { self.new ≡ brought_in line self.old }
     {
-        let entered = self.ways.enter(self.shards, line);
+        let entered = self.ways.enter(self.met.dealt.shards, line);
         let place = entered.place;
         let row = *self.rows.at(place);
         self.rows.put(place, Row::nobody());
-        let number = number_in_shard(self.shards, line).saturating_sub(self.below);
-        remember(&mut self.met.guesses, number, entered.way);
+        self.met.remember(line, entered);
         self.met.last = Some(Last {
             line,
             place: Some(place),
@@ -185,7 +182,7 @@ impl Home {
     pub fn mark_dirty(&mut self, line: u64)
         ensures { self.new ≡ marked_dirty_in line self.old }
     {
-        if let Some(place) = find(&self.ways, &self.met, self.shards, self.below, line) {
+        if let Some(place) = find(&self.ways, &self.met, line) {
             self.rows.mark_dirty(place);
         }
     }
@@ -195,7 +192,7 @@ impl Home {
         requires { core < 256 }
         ensures { self.new ≡ granted_in line core alone self.old }
     {
-        if let Some(place) = find(&self.ways, &self.met, self.shards, self.below, line) {
+        if let Some(place) = find(&self.ways, &self.met, line) {
             self.rows.add_sharer(place, core, alone);
         }
     }
@@ -205,7 +202,7 @@ impl Home {
         requires { core < 256 }
         ensures { self.new ≡ owned_in line core self.old }
     {
-        if let Some(place) = find(&self.ways, &self.met, self.shards, self.below, line) {
+        if let Some(place) = find(&self.ways, &self.met, line) {
             self.rows.own(place, core);
         }
     }
@@ -215,7 +212,7 @@ impl Home {
         requires { core < 256 }
         ensures { self.new ≡ dropped_in line core self.old }
     {
-        if let Some(place) = find(&self.ways, &self.met, self.shards, self.below, line) {
+        if let Some(place) = find(&self.ways, &self.met, line) {
             self.rows.remove_sharer(place, core);
         }
     }
@@ -225,7 +222,7 @@ impl Home {
         requires { core < 256 }
         ensures { self.new ≡ dropped_in line core (marked_dirty_in line self.old) }
     {
-        if let Some(place) = find(&self.ways, &self.met, self.shards, self.below, line) {
+        if let Some(place) = find(&self.ways, &self.met, line) {
             self.rows.remove_writer(place, core);
         }
     }
@@ -235,7 +232,7 @@ impl Home {
         requires { core < 256 }
         ensures { self.new ≡ fetched_in line core self.old }
     {
-        if let Some(place) = find(&self.ways, &self.met, self.shards, self.below, line) {
+        if let Some(place) = find(&self.ways, &self.met, line) {
             self.rows.add_fetcher(place, core);
         }
     }
@@ -245,7 +242,7 @@ impl Home {
         requires { core < 256 }
         ensures { self.new ≡ unfetched_in line core self.old }
     {
-        if let Some(place) = find(&self.ways, &self.met, self.shards, self.below, line) {
+        if let Some(place) = find(&self.ways, &self.met, line) {
             self.rows.remove_fetcher(place, core);
         }
     }
@@ -276,7 +273,7 @@ impl Home {
         ensures place { line_bytes * result ≡ line_place self.now line }
         ensures kept { KeepsLine self.now line }
     {
-        number_in_shard(self.shards, line).saturating_sub(self.below) as usize
+        number_in_shard(self.met.dealt.shards, line).saturating_sub(self.met.dealt.below) as usize
     }
 
     /// Whether a core has marked these bytes by a load-reserved.

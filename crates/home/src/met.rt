@@ -1,111 +1,139 @@
-//! What is remembered of the ways of the L2, so that a line is mostly found without a search of its
+//! Which ways of the L2 have the lines of memory, so that a line is found without a search of its
 //! set.
-ghost use Rattle.std.specs.Prelude.{◌≡◌, ◌*◌, ◌<◌, ◌≤◌, ◌%◌, IfSome, IfNone, slice_index_or, slice_set, vec_len};
+ghost use Rattle.std.specs.Prelude.{◌≡◌, ◌+◌, ◌*◌, ◌/◌, ◌^◌, ◌<◌, ◌≤◌, ℕ, IfSome, IfNone, length, vec_len};
 ghost use Rattle.cache_set.specs.Places.{StandsAt, StandsNowhere, set_number_in};
-ghost use Rattle.home.specs.Layout.{IsFound, IsLast};
+ghost use Rattle.home.specs.Layout.{AreKnown, IsFound, IsLast, IsNoted, IsOwn, IsRemembered, known_place};
 
-use cache_set::{Tags, number_in_shard};
+use cache_set::{Entered, Tags, number_in_shard};
 use division::remainder;
 
-/// The line that was looked for last, and the ways into which lines came last.
+/// Which lines are the bank's, and which ways have those of memory.
 #[derive(Drop)]
 pub(crate) struct Met {
-    /// The calls of one access go to its line one after the other.
+    pub(crate) dealt: Dealt,
+    /// The line that was looked for last: the calls of one access go to its line one after the other.
     pub(crate) last: Option<Last>,
-    /// By line of the bank, from the first in memory on: into which way of its set it came last. A
-    /// guess, since the line may have left. It is one byte, and few lines of the host's own caches
-    /// have those of all lines that a program goes to.
-    pub(crate) guesses: Vec<u8>,
+    /// By line of the bank, from the first in memory on: 0 where the L2 doesn't have it, and else one
+    /// more than its way in its set. It is one byte, and few lines of the host's own caches have
+    /// those of all lines that a program goes to.
+    pub(crate) known: Vec<u8>,
 }
 
-/// A line, and the way that has it, None where the L2 doesn't have it.
+/// The line that was looked for last, and the way that has it, None where the L2 doesn't have it.
 #[derive(Clone, Copy)]
 pub(crate) struct Last {
     pub(crate) line: u64,
     pub(crate) place: Option<usize>,
 }
 
-/// The way that has a line, if one of the L2 has it. For the line that was looked for last there is
-/// no search, and for one that was guessed there is none either. So many of the bank's lines lie
-/// `below` memory.
+impl Met {
+    /// A line came into a way, as it entered.
+    #[inline(always)]
+    pub(crate) fn remember(&mut self, line: u64, entered: Entered)
+        requires shards { 0 < self.old.dealt.shards }
+        requires way { entered.way < 32 }
+        ensures known { IsRemembered self.old.dealt.number self.old.dealt.shards self.old.dealt.below line (entered.way + 1) entered.evicts entered.had self.old.known.items self.new.known.items }
+        ensures last { self.new.last ≡ self.old.last }
+        ensures dealt { self.new.dealt ≡ self.old.dealt }
+    {
+        if entered.evicts {
+            self.note(entered.had, 0);
+        }
+        self.note(line, entered.way as u8 + 1);
+    }
+
+    /// Notes something of a line, if it is one of the bank's in memory.
+    #[inline(always)]
+    fn note(&mut self, line: u64, value: u8)
+        requires { 0 < self.old.dealt.shards }
+        ensures known { IsNoted self.old.dealt.number self.old.dealt.shards self.old.dealt.below line value self.old.known.items self.new.known.items }
+        ensures last { self.new.last ≡ self.old.last }
+        ensures dealt { self.new.dealt ≡ self.old.dealt }
+    {
+        if let Some(at) = self.dealt.place(line, self.known.len()) {
+            self.known[at] = value;
+        }
+    }
+}
+
+/// Which lines are the bank's.
+#[derive(Clone, Copy)]
+pub(crate) struct Dealt {
+    /// The bank's number.
+    pub(crate) number: u16,
+    /// How many banks there are.
+    pub(crate) shards: u64,
+    /// How many of the bank's lines lie below memory.
+    pub(crate) below: u64,
+}
+
+impl Dealt {
+    /// Where a line stands among the first of the bank's lines in memory, if it is one of so many.
+    #[inline(always)]
+    pub(crate) fn place(self, line: u64, lines: usize) -> Option<usize>
+        requires { 0 < self.shards }
+        ensures some { IfSome result (IsOwn self.number self.shards self.below lines line) }
+        ensures none { IfNone result ((at : ℕ) → IsOwn self.number self.shards self.below lines line at → ⊥) }
+    {
+        let number = number_in_shard(self.shards, line);
+        let is_own = line - number * self.shards == u64::from(self.number);
+        if is_own && self.below <= number && number - self.below < lines as u64 {
+            Some((number - self.below) as usize)
+        } else {
+            None
+        }
+    }
+}
+
+/// The way that has a line, if one of the L2 has it. For the line that was looked for last nothing
+/// is read, and none of the bank's in memory is searched for.
 #[inline(always)]
-pub(crate) fn find(ways: &Tags, met: &Met, shards: u64, below: u64, line: u64) -> Option<usize>
-    requires shards { 0 < shards }
+pub(crate) fn find(ways: &Tags, met: &Met, line: u64) -> Option<usize>
+    requires shards { 0 < met.now.dealt.shards }
     requires sets { 0 < ways.now.sets }
     requires ages { vec_len ways.now.ages ≡ ways.now.sets * ways.now.ways }
     requires tags { vec_len ways.now.tags ≡ ways.now.sets * ways.now.ways }
-    requires last { IsLast shards ways.now.sets ways.now.ways ways.now.ages.items ways.now.tags.items met.now.last }
-    ensures here { IfSome result (StandsAt ways.now.ways ways.now.ages.items ways.now.tags.items (set_number_in shards ways.now.sets line) line) }
-    ensures none { IfNone result (StandsNowhere ways.now.ways ways.now.ages.items ways.now.tags.items (set_number_in shards ways.now.sets line) line) }
-    ensures found { IsFound shards ways.now.sets ways.now.ways ways.now.ages.items ways.now.tags.items line result }
+    requires last { IsLast met.now.dealt.shards ways.now.sets ways.now.ways ways.now.ages.items ways.now.tags.items met.now.last }
+    requires known { AreKnown met.now.dealt.number met.now.dealt.shards met.now.dealt.below ways.now.sets ways.now.ways ways.now.ages.items ways.now.tags.items met.now.known.items }
+    ensures here { IfSome result (StandsAt ways.now.ways ways.now.ages.items ways.now.tags.items (set_number_in met.now.dealt.shards ways.now.sets line) line) }
+    ensures none { IfNone result (StandsNowhere ways.now.ways ways.now.ages.items ways.now.tags.items (set_number_in met.now.dealt.shards ways.now.sets line) line) }
+    ensures found { IsFound met.now.dealt.shards ways.now.sets ways.now.ways ways.now.ages.items ways.now.tags.items line result }
 {
     if let Some(last) = met.last {
         if last.line == line {
             return last.place;
         }
     }
-    find_elsewhere(ways, &met.guesses, shards, below, line)
+    find_elsewhere(ways, met, line)
 }
 
 /// The same for another line than the one that was looked for last.
 // Out of line, so that the callers, which mostly ask for that one, are short.
 #[inline(never)]
-fn find_elsewhere(ways: &Tags, guesses: &[u8], shards: u64, below: u64, line: u64) -> Option<usize>
-    requires shards { 0 < shards }
+fn find_elsewhere(ways: &Tags, met: &Met, line: u64) -> Option<usize>
+    requires shards { 0 < met.now.dealt.shards }
     requires sets { 0 < ways.now.sets }
     requires ages { vec_len ways.now.ages ≡ ways.now.sets * ways.now.ways }
     requires tags { vec_len ways.now.tags ≡ ways.now.sets * ways.now.ways }
-    ensures here { IfSome result (StandsAt ways.now.ways ways.now.ages.items ways.now.tags.items (set_number_in shards ways.now.sets line) line) }
-    ensures none { IfNone result (StandsNowhere ways.now.ways ways.now.ages.items ways.now.tags.items (set_number_in shards ways.now.sets line) line) }
+    requires known { AreKnown met.now.dealt.number met.now.dealt.shards met.now.dealt.below ways.now.sets ways.now.ways ways.now.ages.items ways.now.tags.items met.now.known.items }
+    ensures { IsFound met.now.dealt.shards ways.now.sets ways.now.ways ways.now.ages.items ways.now.tags.items line result }
 {
-    let number = number_in_shard(shards, line);
-    let set = remainder(number, ways.sets);
-    let way = guess(guesses, number.saturating_sub(below));
-    match at_way(ways, set, line, way) {
-        Some(place) => Some(place),
+    let set = remainder(number_in_shard(met.dealt.shards, line), ways.sets);
+    match met.dealt.place(line, met.known.len()) {
+        Some(at) => place_known(met.known[at], set, ways.ways),
         None => ways.find_in(set, line),
     }
 }
 
-/// The way into which a line of the bank came last.
+/// The way of a set that is known to have a line, if one is.
 #[inline(always)]
-fn guess(guesses: &[u8], line: u64) -> usize
-    ensures { result ≡ slice_index_or guesses.now line 0 }
+fn place_known(known: u8, set: u64, ways: usize) -> Option<usize>
+    requires { set * ways + ways < 2 ^ 63 }
+    ensures { result ≡ known_place ways set known }
 {
-    match guesses.get(line as usize) {
-        Some(way) => usize::from(*way),
-        None => 0,
-    }
-}
-
-/// A line of the bank came into this way.
-#[inline(always)]
-pub(crate) fn remember(guesses: &mut [u8], line: u64, way: usize)
-    requires { way < 32 }
-    ensures { guesses.new ≡ slice_set guesses.old line way }
-{
-    let at = line as usize;
-    if at < guesses.len() {
-        guesses[at] = way as u8;
-    }
-}
-
-/// This way of a set, if it has the line.
-#[inline(always)]
-#[tactic(auto, using(cache_set::proofs::Pieces::within_pieces))]
-fn at_way(ways: &Tags, set: u64, line: u64, way: usize) -> Option<usize>
-    requires set { set < ways.now.sets }
-    requires ages { vec_len ways.now.ages ≡ ways.now.sets * ways.now.ways }
-    requires tags { vec_len ways.now.tags ≡ ways.now.sets * ways.now.ways }
-    ensures { IfSome result (StandsAt ways.now.ways ways.now.ages.items ways.now.tags.items set line) }
-{
-    if way >= ways.ways {
-        return None;
-    }
-    let place = set as usize * ways.ways + way;
-    if ways.tags[place] == line && ways.ages[place] != 0 {
-        Some(place)
-    } else {
+    if known == 0 {
         None
+    } else {
+        Some(set as usize * ways + usize::from(known) - 1)
     }
 }

@@ -12,7 +12,7 @@ returns-in-Some c =
     let s = c.self.inside in
     let mid : Row = record (get_or s.rows c.in-Some.place unheld) { dirty = true } in
     rw (← c.self.view_is)
-    (ap (home_with s.number s.shards s.base s.size s.ways.ways s.bytes s.marks)
+    (ap (home_with s.met.dealt.number s.met.dealt.shards s.base s.size s.ways.ways s.bytes s.marks)
     (row_changed_twice_there c.self.invariant c.args.line c.in-Some.place c.in-Some.ensures.here (λ (row : HomeLine). record row { dirty = true }) (λ (row : HomeLine). record row { sharers = without_core c.args.core row.sharers; alone = false })
     mid refl c.remove_writer.ensures.changed))
 
@@ -24,5 +24,5 @@ returns-in_default c =
     let mark : HomeLine → HomeLine = λ (row : HomeLine). record row { dirty = true } in
     let drop : HomeLine → HomeLine = λ (row : HomeLine). record row { sharers = without_core c.args.core row.sharers; alone = false } in
     rw (← c.self.view_is)
-    (ap (home_with s.number s.shards s.base s.size s.ways.ways s.bytes s.marks)
-    (sym (ap (in_row s.shards c.args.line drop) (same_nowhere c.self.invariant c.args.line none mark) ∙ same_nowhere c.self.invariant c.args.line none drop)))
+    (ap (home_with s.met.dealt.number s.met.dealt.shards s.base s.size s.ways.ways s.bytes s.marks)
+    (sym (ap (in_row s.met.dealt.shards c.args.line drop) (same_nowhere c.self.invariant c.args.line none mark) ∙ same_nowhere c.self.invariant c.args.line none drop)))

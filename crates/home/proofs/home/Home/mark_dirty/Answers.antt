@@ -8,7 +8,7 @@ unfolding marked_dirty_in
 returns-in-Some c =
     let s = c.self.inside in
     rw (← c.self.view_is)
-    (ap (home_with s.number s.shards s.base s.size s.ways.ways s.bytes s.marks)
+    (ap (home_with s.met.dealt.number s.met.dealt.shards s.base s.size s.ways.ways s.bytes s.marks)
     (row_changed_there c.self.invariant c.args.line c.in-Some.place c.in-Some.ensures.here (λ (row : HomeLine). record row { dirty = true }) c.mark_dirty.ensures.changed))
 
 pub returns-in_default : goal.returns-in_default
@@ -16,5 +16,5 @@ unfolding marked_dirty_in
 returns-in_default c =
     let s = c.self.inside in
     rw (← c.self.view_is)
-    (ap (home_with s.number s.shards s.base s.size s.ways.ways s.bytes s.marks)
+    (ap (home_with s.met.dealt.number s.met.dealt.shards s.base s.size s.ways.ways s.bytes s.marks)
     (sym (same_nowhere c.self.invariant c.args.line c.in_default.ensures.none (λ (row : HomeLine). record row { dirty = true }))))

@@ -44,9 +44,9 @@ returns-in-Some-clause-used c =
     let early = c.next_age-age.ensures.early in
     let s = c.self.inside in
     rw (← c.self.view_is)
-    (ap (home_with s.number s.shards s.base s.size s.ways.ways s.bytes s.marks)
+    (ap (home_with s.met.dealt.number s.met.dealt.shards s.base s.size s.ways.ways s.bytes s.marks)
     (used_there (home_anew was age anew order all later early) c.args.line p (stands_anew was age anew order all later early c.args.line p c.in-Some.ensures.here) age (age_later was age anew order all later early)
-    ∙ ap (in_set_of s.shards c.args.line (used c.args.line)) (lists_anew was age anew order all later early)))
+    ∙ ap (in_set_of s.met.dealt.shards c.args.line (used c.args.line)) (lists_anew was age anew order all later early)))
 
 pub returns-in-None-clause-row : goal.returns-in-None-clause-row
 unfolding row_at

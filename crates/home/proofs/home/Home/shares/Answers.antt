@@ -13,7 +13,7 @@ returns-in-Some-clause-value c =
     let was = c.self.invariant in
     let p = c.in-Some.place in
     let s = c.self.inside in
-    let at = subst (λ (o : Option ℕ). IfSome o (StandsAt s.ways.ways s.ways.ages.items s.ways.tags.items (set_number_in s.shards s.ways.sets c.args.line) c.args.line)) c.in-Some.is c.find-place.ensures.here in
+    let at = subst (λ (o : Option ℕ). IfSome o (StandsAt s.ways.ways s.ways.ages.items s.ways.tags.items (set_number_in s.met.dealt.shards s.ways.sets c.args.line) c.args.line)) c.in-Some.is c.find-place.ensures.here in
     let row = c.at.result.now in
     rw (← c.self.view_is)
     (c.has.ensures ∙ sym (is_member-cores_in row.sharers.words c.args.core)
@@ -24,5 +24,5 @@ pub returns-clause-value : goal.returns-clause-value
 unfolding row_at
 returns-clause-value c =
     let s = c.self.inside in
-    let nowhere = subst (λ (o : Option ℕ). IfNone o (StandsNowhere s.ways.ways s.ways.ages.items s.ways.tags.items (set_number_in s.shards s.ways.sets c.args.line) c.args.line)) c.in_default.is c.find-place.ensures.none in
+    let nowhere = subst (λ (o : Option ℕ). IfNone o (StandsNowhere s.ways.ways s.ways.ages.items s.ways.tags.items (set_number_in s.met.dealt.shards s.ways.sets c.args.line) c.args.line)) c.in_default.is c.find-place.ensures.none in
     rw (← c.self.view_is) (ap (λ (found : Option HomeLine). is_member nat_eq (unwrap_or found nobody).sharers c.args.core) (sym (row_nowhere c.self.invariant c.args.line nowhere)))
