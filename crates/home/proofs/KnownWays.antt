@@ -1,14 +1,15 @@
 -- Which way has each of the bank's lines, as the ways change.
-use Rattle.std.proofs.Common.{◌≡◌, ◌≢◌, ◌⊎◌, inl, inr, ℕ, zero, suc, ◌+◌, ◌-◌, ◌*◌, ◌/◌, ◌%◌, ◌<◌, ◌≤◌, Bool, true, false, List, [], length, get_or, replicate, set, Option, Some, None, refl, sym, ap, ap₂, ◌∙◌, subst, arith}
+use Rattle.std.proofs.Common.{◌≡◌, ◌≢◌, ◌⊎◌, inl, inr, ℕ, zero, suc, ◌+◌, ◌-◌, ◌*◌, ◌/◌, ◌<◌, ◌≤◌, Bool, true, false, List, length, get_or, replicate, set, Option, Some, None, refl, sym, ap, ap₂, ◌∙◌, subst, arith}
 use Rattle.std.proofs.Math.Nat.{div-add-mod'}
 use Rattle.std.proofs.lemmas.Bool.{cases_eq, cases_lt}
 use Rattle.std.proofs.lemmas.Nat.{mod_below}
-use Rattle.std.proofs.lemmas.List.{get_or-set_other, get_or-set_same, length-set}
-use Rattle.cache_set.specs.Pieces.{AreAgedSets, piece}
+use Rattle.std.proofs.lemmas.List.{get_or-set_other, get_or-set_same}
+use Rattle.cache_set.specs.Pieces.{AreAgedSets}
 use Rattle.cache_set.specs.Places.{IsNext, StandsAt, StandsNowhere, set_number_in}
 use Rattle.cache_set.proofs.Pieces.{piece_get, within_pieces}
 use Rattle.home.proofs.Placed.{zeros_at}
-use Rattle.home.specs.Layout.{AreKnown, IsFound, IsInSet, IsNoted, IsOwn, IsRemembered, known_place}
+use Rattle.home.proofs.RowPlaces.{row_of_parts, row_within, way_of_row}
+use Rattle.home.specs.Layout.{AreKnown, IsFound, IsInSet, IsNoted, IsOwn, IsRemembered, known_row, row_place, way_place}
 
 cases_bool : (b : Bool) → (b ≡ true) ⊎ (b ≡ false)
 cases_bool true = inl refl
@@ -42,10 +43,10 @@ own_once {number} {shards} {below} {lines} {line} {other} {at} a b =
 pub own_place : {number shards below lines line at other : ℕ} → IsOwn number shards below lines line at → IsOwn number shards below lines line other → at ≡ other
 own_place a b = a.place ∙ sym b.place
 
--- which way is meant
-pub known_is : (ways n known : ℕ) → 0 < known → known_place ways n known ≡ Some (n * ways + known - 1)
-known_is ways n zero some = absurd (omega (arith, some))
-known_is ways n (suc way) some = ap (λ (q : ℕ). Some q) (let q : n * ways + way ≡ n * ways + suc way - 1 = omega arith in q)
+-- which row is meant
+pub known_is : (sets n known : ℕ) → 0 < known → known_row sets n known ≡ Some ((known - 1) * sets + n)
+known_is sets n zero some = absurd (omega (arith, some))
+known_is sets n (suc way) some = ap (λ (w : ℕ). Some (w * sets + n)) (let w : way ≡ suc way - 1 = omega arith in w)
 
 -- ---- the ways as they are
 
@@ -72,24 +73,24 @@ module _ {number shards below sets ways tick : ℕ} {ages tags known : List ℕ}
 
     found_used : (line : ℕ) (o : Option ℕ) → IsFound shards sets ways ages tags line o → IsFound shards sets ways (set ages p age) tags line o
     found_used line None none = lacks_all (λ q from to now. lacks_at none q from to (live_before q now))
-    found_used line (Some q) at = record { from = at.from; to = at.to; live = live_still q at.live; tag = at.tag }
+    found_used line (Some r) at = (record { from = at.0.from; to = at.0.to; live = live_still (way_place sets ways r) at.0.live; tag = at.0.tag }, at.1)
 
     pub known_used : AreKnown number shards below sets ways (set ages p age) tags known
     known_used = record {
       placed = λ q within now. k.placed q within (live_before q now);
-      found = λ line at own. found_used line (known_place ways (set_number_in shards sets line) (get_or known at 0)) (k.found line at own);
+      found = λ line at own. found_used line (known_row sets (set_number_in shards sets line) (get_or known at 0)) (k.found line at own);
     }
 
   -- ages that are written anew are of the same ways
   module _ (anew : List ℕ) (same : (q : ℕ) → q < sets * ways → 0 < get_or anew q 0 → 0 < get_or ages q 0) (still : (q : ℕ) → q < sets * ways → 0 < get_or ages q 0 → 0 < get_or anew q 0) where
     found_anew : (line : ℕ) (o : Option ℕ) → IsFound shards sets ways ages tags line o → IsFound shards sets ways anew tags line o
     found_anew line None none = lacks_all (λ q from to now. lacks_at none q from to (same q (in_sets line q to) now))
-    found_anew line (Some q) at = record { from = at.from; to = at.to; live = still q (in_sets line q at.to) at.live; tag = at.tag }
+    found_anew line (Some r) at = (record { from = at.0.from; to = at.0.to; live = still (way_place sets ways r) (in_sets line (way_place sets ways r) at.0.to) at.0.live; tag = at.0.tag }, at.1)
 
     pub known_anew : AreKnown number shards below sets ways anew tags known
     known_anew = record {
       placed = λ q within now. k.placed q within (same q within now);
-      found = λ line at own. found_anew line (known_place ways (set_number_in shards sets line) (get_or known at 0)) (k.found line at own);
+      found = λ line at own. found_anew line (known_row sets (set_number_in shards sets line) (get_or known at 0)) (k.found line at own);
     }
 
   -- A line comes in where the set's next way is. The line that this way had, if it had one, is there no more.
@@ -113,10 +114,20 @@ module _ {number shards below sets ways tick : ℕ} {ages tags known : List ℕ}
     found_here : StandsAt ways ages_then tags_then (set_number_in shards sets line) line p
     found_here = record { from = next.from; to = next.to; live = live_there; tag = tag_there }
 
-    here_known : known_place ways (set_number_in shards sets line) (p - set_number_in shards sets line * ways + 1) ≡ Some p
+    here_known : known_row sets (set_number_in shards sets line) (p - set_number_in shards sets line * ways + 1) ≡ Some (row_place sets ways p)
     here_known =
-        known_is ways (set_number_in shards sets line) (p - set_number_in shards sets line * ways + 1) (omega arith)
-        ∙ ap (λ (q : ℕ). Some q) (let q : set_number_in shards sets line * ways + (p - set_number_in shards sets line * ways + 1) - 1 ≡ p = omega (arith, next.from) in q)
+        let n = set_number_in shards sets line in
+        let w = p - n * ways in
+        let below : w < ways = omega (arith, next.from, next.to) in
+        let row : (w + 1 - 1) * sets + n ≡ row_place sets ways p =
+        ap (λ (k : ℕ). k * sets + n) (let e : w + 1 - 1 ≡ w = omega arith in e)
+        ∙ (sym (row_of_parts sets ways n w below) ∙ ap (row_place sets ways) (let e : n * ways + w ≡ p = omega (arith, next.from) in e)) in
+        known_is sets n (w + 1) (omega arith) ∙ ap (λ (r : ℕ). Some r) row
+
+    here_found : IsFound shards sets ways ages_then tags_then line (Some (row_place sets ways p))
+    here_found =
+        let back = way_of_row sets ways p p_inside in
+        (subst (λ (q : ℕ). StandsAt ways ages_then tags_then (set_number_in shards sets line) line q) (sym back) found_here, (row_within sets ways p p_inside, ap (row_place sets ways) (sym back)))
 
     -- a line that isn't there, and is another
     nowhere_then : (other : ℕ) → other ≢ line → ((q : ℕ) → set_number_in shards sets other * ways ≤ q → q < set_number_in shards sets other * ways + ways → q ≢ p → 0 < get_or ages q 0 → other ≢ get_or tags q 0)
@@ -130,15 +141,18 @@ module _ {number shards below sets ways tick : ℕ} {ages tags known : List ℕ}
     -- another line that stays as it was: none had it, or another way
     found_still : (other : ℕ) → other ≢ line → (o : Option ℕ) → (0 < get_or ages p 0 → other ≢ get_or tags p 0) → IsFound shards sets ways ages tags other o → IsFound shards sets ways ages_then tags_then other o
     found_still other differs None kept none = nowhere_then other differs (λ q from to apart live. lacks_at none q from to live)
-    found_still other differs (Some q) kept at =
-        elim (cases_eq q p) as (λ _. StandsAt ways ages_then tags_then (set_number_in shards sets other) other q) [
-          | inl e ↦ absurd (kept (subst (λ (at : ℕ). 0 < get_or ages at 0) e at.live) (sym at.tag ∙ ap (λ (at : ℕ). get_or tags at 0) e))
-          | inr apart ↦ record {
-            from = at.from;
-            to = at.to;
-            live = subst (λ (a : ℕ). 0 < a) (sym (get_or-set_other ages p q age 0 apart)) at.live;
-            tag = get_or-set_other tags p q line 0 apart ∙ at.tag;
-          }
+    found_still other differs (Some r) kept at =
+        elim (cases_eq (way_place sets ways r) p) as (λ _. IsFound shards sets ways ages_then tags_then other (Some r)) [
+          | inl e ↦ absurd (kept (subst (λ (at : ℕ). 0 < get_or ages at 0) e at.0.live) (sym at.0.tag ∙ ap (λ (at : ℕ). get_or tags at 0) e))
+          | inr apart ↦ (
+            record {
+              from = at.0.from;
+              to = at.0.to;
+              live = subst (λ (a : ℕ). 0 < a) (sym (get_or-set_other ages p (way_place sets ways r) age 0 apart)) at.0.live;
+              tag = get_or-set_other tags p (way_place sets ways r) line 0 apart ∙ at.0.tag;
+            },
+            at.1,
+          )
         ]
 
     -- the line that leaves
@@ -178,15 +192,15 @@ module _ {number shards below sets ways tick : ℕ} {ages tags known : List ℕ}
       found = λ other at own_then.
           let own = subst (λ (n : ℕ). IsOwn number shards below n other at) long own_then in
           let n = set_number_in shards sets other in
-          elim (cases_eq other line) as (λ _. IsFound shards sets ways ages_then tags_then other (known_place ways n (get_or after at 0))) [
+          elim (cases_eq other line) as (λ _. IsFound shards sets ways ages_then tags_then other (known_row sets n (get_or after at 0))) [
             | inl e ↦
-                subst (λ (v : ℕ). IsFound shards sets ways ages_then tags_then other (known_place ways n v)) (sym (here at (subst (λ (l : ℕ). IsOwn number shards below (length known) l at) e own)))
-                (subst (λ (l : ℕ). IsFound shards sets ways ages_then tags_then l (known_place ways (set_number_in shards sets l) (p - set_number_in shards sets line * ways + 1))) (sym e)
-                (subst (IsFound shards sets ways ages_then tags_then line) (sym here_known) found_here))
+                subst (λ (v : ℕ). IsFound shards sets ways ages_then tags_then other (known_row sets n v)) (sym (here at (subst (λ (l : ℕ). IsOwn number shards below (length known) l at) e own)))
+                (subst (λ (l : ℕ). IsFound shards sets ways ages_then tags_then l (known_row sets (set_number_in shards sets l) (p - set_number_in shards sets line * ways + 1))) (sym e)
+                (subst (IsFound shards sets ways ages_then tags_then line) (sym here_known) here_found))
             | inr differs ↦
-                elim (cases_lt 0 (get_or ages p 0)) as (λ _. IsFound shards sets ways ages_then tags_then other (known_place ways n (get_or after at 0))) [
-                  | inl live ↦ elim (cases_eq (get_or tags p 0) other) as (λ _. IsFound shards sets ways ages_then tags_then other (known_place ways n (get_or after at 0))) [
-                    | inl tag ↦ subst (λ (v : ℕ). IsFound shards sets ways ages_then tags_then other (known_place ways n v)) (sym (gone other at own differs live tag)) (gone_then other differs live tag)
+                elim (cases_lt 0 (get_or ages p 0)) as (λ _. IsFound shards sets ways ages_then tags_then other (known_row sets n (get_or after at 0))) [
+                  | inl live ↦ elim (cases_eq (get_or tags p 0) other) as (λ _. IsFound shards sets ways ages_then tags_then other (known_row sets n (get_or after at 0))) [
+                    | inl tag ↦ subst (λ (v : ℕ). IsFound shards sets ways ages_then tags_then other (known_row sets n v)) (sym (gone other at own differs live tag)) (gone_then other differs live tag)
                     | inr tag ↦ stays other at own differs (λ _ same. tag (sym same))
                   ]
                   | inr free ↦ stays other at own differs (λ live _. omega (arith, live, free))
@@ -194,10 +208,10 @@ module _ {number shards below sets ways tick : ℕ} {ages tags known : List ℕ}
           ];
     }
       where
-        stays : (other at : ℕ) → IsOwn number shards below (length known) other at → other ≢ line → (0 < get_or ages p 0 → other ≢ get_or tags p 0) → IsFound shards sets ways ages_then tags_then other (known_place ways (set_number_in shards sets other) (get_or after at 0))
+        stays : (other at : ℕ) → IsOwn number shards below (length known) other at → other ≢ line → (0 < get_or ages p 0 → other ≢ get_or tags p 0) → IsFound shards sets ways ages_then tags_then other (known_row sets (set_number_in shards sets other) (get_or after at 0))
         stays other at own differs kept =
-            subst (λ (v : ℕ). IsFound shards sets ways ages_then tags_then other (known_place ways (set_number_in shards sets other) v)) (sym (still other at own differs kept))
-            (found_still other differs (known_place ways (set_number_in shards sets other) (get_or known at 0)) kept (k.found other at own))
+            subst (λ (v : ℕ). IsFound shards sets ways ages_then tags_then other (known_row sets (set_number_in shards sets other) v)) (sym (still other at own differs kept))
+            (found_still other differs (known_row sets (set_number_in shards sets other) (get_or known at 0)) kept (k.found other at own))
 
     module _ (evicts : Bool) (had : ℕ) (after : List ℕ) (live_was : evicts ≡ true → 0 < get_or ages p 0) (free_was : evicts ≡ false → get_or ages p 0 ≡ 0) (had_is : get_or tags p 0 ≡ had)
         (is : IsRemembered number shards below line (p - set_number_in shards sets line * ways + 1) evicts had known after) where
@@ -241,6 +255,6 @@ nothing_known {number} {shards} {below} {sets} {ways} {ages} {tags} {known} coun
     record {
       placed = λ q within live. absurd (omega (arith, live, none_live q));
       found = λ line at own.
-          subst (λ (v : ℕ). IsFound shards sets ways ages tags line (known_place ways (set_number_in shards sets line) v)) (sym (ap (λ (l : List ℕ). get_or l at 0) none ∙ zeros_at lines at))
+          subst (λ (v : ℕ). IsFound shards sets ways ages tags line (known_row sets (set_number_in shards sets line) v)) (sym (ap (λ (l : List ℕ). get_or l at 0) none ∙ zeros_at lines at))
           (lacks_all (λ q from to live _. omega (arith, live, none_live q)));
     }

@@ -4,5 +4,6 @@ pub mod Homes
 pub mod KnownWays
 pub mod LinesPlaced
 pub mod Placed
+pub mod RowPlaces
 pub mod RowsPlaced
 pub mod Unmarked

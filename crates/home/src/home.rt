@@ -10,7 +10,7 @@ ghost use Rattle.home.specs.Rows.{evicted_in, line_in};
 use crate::filling::{count_lines, first_bytes};
 use crate::lines::Lines;
 use crate::marks::Marks;
-use crate::met::{Dealt, Last, Met, find};
+use crate::met::{Dealt, Last, Met, find, row_place, way_place};
 use crate::row::Row;
 use crate::rows::Rows;
 use cache_set::{Tags, next_age, number_in_shard};
@@ -96,7 +96,7 @@ impl Home {
         ensures { option_map line_in result ≡ row_at self.now line }
     {
         match find(&self.ways, &self.met, line) {
-            Some(place) => Some(*self.rows.at(place)),
+            Some(row) => Some(*self.rows.at(row)),
             None => None,
         }
     }
@@ -109,10 +109,10 @@ impl Home {
         ensures value { result ≡ is_member nat_eq (row_of self.old line).sharers core }
         ensures same { self.new ≡ self.old }
     {
-        let place = find(&self.ways, &self.met, line);
-        self.met.last = Some(Last { line, place });
-        if let Some(place) = place {
-            return self.rows.at(place).sharers.has(core);
+        let row = find(&self.ways, &self.met, line);
+        self.met.last = Some(Last { line, row });
+        if let Some(row) = row {
+            return self.rows.at(row).sharers.has(core);
         }
         false
     }
@@ -125,19 +125,20 @@ impl Home {
         ensures same { IfNone result (self.new ≡ self.old) }
     {
         match find(&self.ways, &self.met, line) {
-            Some(place) => {
+            Some(row) => {
                 let age = next_age(
                     &mut self.ways.ages,
                     &mut self.ways.tick,
                     self.ways.sets,
                     self.ways.ways,
                 );
+                let place = way_place(self.ways.sets, self.ways.ways, row);
                 self.ways.ages[place] = age;
                 self.met.last = Some(Last {
                     line,
-                    place: Some(place),
+                    row: Some(row),
                 });
-                Some(*self.rows.at(place))
+                Some(*self.rows.at(row))
             }
             None => None,
         }
@@ -149,7 +150,10 @@ impl Home {
         ensures { option_map evicted_in result ≡ evicted_by self.now line }
     {
         match self.ways.victim(self.met.dealt.shards, line) {
-            Some(place) => Some((self.ways.tags[place], *self.rows.at(place))),
+            Some(place) => {
+                let row = row_place(self.ways.sets, self.ways.ways, place);
+                Some((self.ways.tags[place], *self.rows.at(row)))
+            }
             None => None,
         }
     }
@@ -163,13 +167,13 @@ impl Home {
         ensures after { self.new ≡ brought_in line self.old }
     {
         let entered = self.ways.enter(self.met.dealt.shards, line);
-        let place = entered.place;
+        let place = row_place(self.ways.sets, self.ways.ways, entered.place);
         let row = *self.rows.at(place);
         self.rows.put(place, Row::nobody());
         self.met.remember(line, entered);
         self.met.last = Some(Last {
             line,
-            place: Some(place),
+            row: Some(place),
         });
         if entered.evicts {
             Some((entered.had, row))
@@ -182,8 +186,8 @@ impl Home {
     pub fn mark_dirty(&mut self, line: u64)
         ensures { self.new ≡ marked_dirty_in line self.old }
     {
-        if let Some(place) = find(&self.ways, &self.met, line) {
-            self.rows.mark_dirty(place);
+        if let Some(row) = find(&self.ways, &self.met, line) {
+            self.rows.mark_dirty(row);
         }
     }
 
@@ -192,8 +196,8 @@ impl Home {
         requires { core < 256 }
         ensures { self.new ≡ granted_in line core alone self.old }
     {
-        if let Some(place) = find(&self.ways, &self.met, line) {
-            self.rows.add_sharer(place, core, alone);
+        if let Some(row) = find(&self.ways, &self.met, line) {
+            self.rows.add_sharer(row, core, alone);
         }
     }
 
@@ -202,8 +206,8 @@ impl Home {
         requires { core < 256 }
         ensures { self.new ≡ owned_in line core self.old }
     {
-        if let Some(place) = find(&self.ways, &self.met, line) {
-            self.rows.own(place, core);
+        if let Some(row) = find(&self.ways, &self.met, line) {
+            self.rows.own(row, core);
         }
     }
 
@@ -212,8 +216,8 @@ impl Home {
         requires { core < 256 }
         ensures { self.new ≡ dropped_in line core self.old }
     {
-        if let Some(place) = find(&self.ways, &self.met, line) {
-            self.rows.remove_sharer(place, core);
+        if let Some(row) = find(&self.ways, &self.met, line) {
+            self.rows.remove_sharer(row, core);
         }
     }
 
@@ -222,8 +226,8 @@ impl Home {
         requires { core < 256 }
         ensures { self.new ≡ dropped_in line core (marked_dirty_in line self.old) }
     {
-        if let Some(place) = find(&self.ways, &self.met, line) {
-            self.rows.remove_writer(place, core);
+        if let Some(row) = find(&self.ways, &self.met, line) {
+            self.rows.remove_writer(row, core);
         }
     }
 
@@ -232,8 +236,8 @@ impl Home {
         requires { core < 256 }
         ensures { self.new ≡ fetched_in line core self.old }
     {
-        if let Some(place) = find(&self.ways, &self.met, line) {
-            self.rows.add_fetcher(place, core);
+        if let Some(row) = find(&self.ways, &self.met, line) {
+            self.rows.add_fetcher(row, core);
         }
     }
 
@@ -242,8 +246,8 @@ impl Home {
         requires { core < 256 }
         ensures { self.new ≡ unfetched_in line core self.old }
     {
-        if let Some(place) = find(&self.ways, &self.met, line) {
-            self.rows.remove_fetcher(place, core);
+        if let Some(row) = find(&self.ways, &self.met, line) {
+            self.rows.remove_fetcher(row, core);
         }
     }
 

@@ -2,10 +2,10 @@
 //! set.
 ghost use Rattle.std.specs.Prelude.{◌≡◌, ◌+◌, ◌*◌, ◌/◌, ◌^◌, ◌<◌, ◌≤◌, ℕ, IfSome, IfNone, length, vec_len};
 ghost use Rattle.cache_set.specs.Places.{StandsAt, StandsNowhere, set_number_in};
-ghost use Rattle.home.specs.Layout.{AreKnown, IsFound, IsLast, IsNoted, IsOwn, IsRemembered, known_place};
+ghost use Rattle.home.specs.Layout.{AreKnown, IsFound, IsLast, IsNoted, IsOwn, IsRemembered, known_row, row_place, way_place};
 
 use cache_set::{Entered, Tags, number_in_shard};
-use division::remainder;
+use division::{quotient, remainder};
 
 /// Which lines are the bank's, and which ways have those of memory.
 #[derive(Drop)]
@@ -19,11 +19,11 @@ pub(crate) struct Met {
     pub(crate) known: Vec<u8>,
 }
 
-/// The line that was looked for last, and the way that has it, None where the L2 doesn't have it.
+/// The line that was looked for last, and where its row stands, None where the L2 doesn't have it.
 #[derive(Clone, Copy)]
 pub(crate) struct Last {
     pub(crate) line: u64,
-    pub(crate) place: Option<usize>,
+    pub(crate) row: Option<usize>,
 }
 
 impl Met {
@@ -85,23 +85,26 @@ impl Dealt {
     }
 }
 
-/// The way that has a line, if one of the L2 has it. For the line that was looked for last nothing
-/// is read, and none of the bank's in memory is searched for.
+/// Where the row of a line stands, if the L2 has it. For the line that was looked for last nothing is
+/// read, and none of the bank's in memory is searched for.
 #[inline(always)]
 pub(crate) fn find(ways: &Tags, met: &Met, line: u64) -> Option<usize>
     requires shards { 0 < met.now.dealt.shards }
-    requires sets { 0 < ways.now.sets }
+    requires sets { (0 < ways.now.sets) × (ways.now.sets ≤ 65536) }
+    requires some { 1 ≤ ways.now.ways }
     requires ages { vec_len ways.now.ages ≡ ways.now.sets * ways.now.ways }
     requires tags { vec_len ways.now.tags ≡ ways.now.sets * ways.now.ways }
     requires last { IsLast met.now.dealt.shards ways.now.sets ways.now.ways ways.now.ages.items ways.now.tags.items met.now.last }
     requires known { AreKnown met.now.dealt.number met.now.dealt.shards met.now.dealt.below ways.now.sets ways.now.ways ways.now.ages.items ways.now.tags.items met.now.known.items }
-    ensures here { IfSome result (StandsAt ways.now.ways ways.now.ages.items ways.now.tags.items (set_number_in met.now.dealt.shards ways.now.sets line) line) }
+    ensures here { IfSome result (λ row. StandsAt ways.now.ways ways.now.ages.items ways.now.tags.items (set_number_in met.now.dealt.shards ways.now.sets line) line (way_place ways.now.sets ways.now.ways row)) }
+    ensures within { IfSome result (λ row. row < ways.now.sets * ways.now.ways) }
+    ensures row { IfSome result (λ row. row ≡ row_place ways.now.sets ways.now.ways (way_place ways.now.sets ways.now.ways row)) }
     ensures none { IfNone result (StandsNowhere ways.now.ways ways.now.ages.items ways.now.tags.items (set_number_in met.now.dealt.shards ways.now.sets line) line) }
     ensures found { IsFound met.now.dealt.shards ways.now.sets ways.now.ways ways.now.ages.items ways.now.tags.items line result }
 {
     if let Some(last) = met.last {
         if last.line == line {
-            return last.place;
+            return last.row;
         }
     }
     find_elsewhere(ways, met, line)
@@ -112,7 +115,8 @@ pub(crate) fn find(ways: &Tags, met: &Met, line: u64) -> Option<usize>
 #[inline(never)]
 fn find_elsewhere(ways: &Tags, met: &Met, line: u64) -> Option<usize>
     requires shards { 0 < met.now.dealt.shards }
-    requires sets { 0 < ways.now.sets }
+    requires sets { (0 < ways.now.sets) × (ways.now.sets ≤ 65536) }
+    requires some { 1 ≤ ways.now.ways }
     requires ages { vec_len ways.now.ages ≡ ways.now.sets * ways.now.ways }
     requires tags { vec_len ways.now.tags ≡ ways.now.sets * ways.now.ways }
     requires known { AreKnown met.now.dealt.number met.now.dealt.shards met.now.dealt.below ways.now.sets ways.now.ways ways.now.ages.items ways.now.tags.items met.now.known.items }
@@ -120,20 +124,66 @@ fn find_elsewhere(ways: &Tags, met: &Met, line: u64) -> Option<usize>
 {
     let set = remainder(number_in_shard(met.dealt.shards, line), ways.sets);
     match met.dealt.place(line, met.known.len()) {
-        Some(at) => place_known(met.known[at], set, ways.ways),
-        None => ways.find_in(set, line),
+        Some(at) => row_known(met.known[at], set, ways.sets),
+        None => search(ways, set, line),
     }
 }
 
-/// The way of a set that is known to have a line, if one is.
+/// The row of the way of a set that is known to have a line, if one is.
 #[inline(always)]
-fn place_known(known: u8, set: u64, ways: usize) -> Option<usize>
-    requires { set * ways + ways < 2 ^ 63 }
-    ensures { result ≡ known_place ways set known }
+fn row_known(known: u8, set: u64, sets: u64) -> Option<usize>
+    requires set { set < sets }
+    requires sets { sets ≤ 65536 }
+    ensures { result ≡ known_row sets set known }
 {
     if known == 0 {
         None
     } else {
-        Some(set as usize * ways + usize::from(known) - 1)
+        Some((usize::from(known) - 1) * sets as usize + set as usize)
     }
+}
+
+/// The row of a way that is searched for.
+#[cold]
+fn search(ways: &Tags, set: u64, line: u64) -> Option<usize>
+    requires set { set < ways.now.sets }
+    requires sets { ways.now.sets ≤ 65536 }
+    requires some { 1 ≤ ways.now.ways }
+    requires ages { vec_len ways.now.ages ≡ ways.now.sets * ways.now.ways }
+    requires tags { vec_len ways.now.tags ≡ ways.now.sets * ways.now.ways }
+    ensures here { IfSome result (λ row. StandsAt ways.now.ways ways.now.ages.items ways.now.tags.items set line (way_place ways.now.sets ways.now.ways row)) }
+    ensures within { IfSome result (λ row. row < ways.now.sets * ways.now.ways) }
+    ensures row { IfSome result (λ row. row ≡ row_place ways.now.sets ways.now.ways (way_place ways.now.sets ways.now.ways row)) }
+    ensures none { IfNone result (StandsNowhere ways.now.ways ways.now.ages.items ways.now.tags.items set line) }
+{
+    match ways.find_in(set, line) {
+        Some(place) => Some(row_place(ways.sets, ways.ways, place)),
+        None => None,
+    }
+}
+
+/// Where the row of the way at a place stands. The ways stand set by set, and the rows way by way: so
+/// the rows of lines that follow each other are mostly neighbours.
+#[inline(always)]
+pub(crate) fn row_place(sets: u64, ways: usize, place: usize) -> usize
+    requires some { 0 < ways }
+    requires sets { sets ≤ 65536 }
+    requires within { place < sets * ways }
+    requires few { sets * ways < 2 ^ 63 }
+    ensures { result ≡ row_place sets ways place }
+{
+    let way = remainder(place as u64, ways as u64) as usize;
+    way * sets as usize + quotient(place as u64, ways as u64) as usize
+}
+
+/// Where the way stands whose row this is.
+#[inline(always)]
+pub(crate) fn way_place(sets: u64, ways: usize, row: usize) -> usize
+    requires some { 0 < sets }
+    requires within { row < sets * ways }
+    requires few { sets * ways < 2 ^ 63 }
+    ensures { result ≡ way_place sets ways row }
+{
+    let set = remainder(row as u64, sets) as usize;
+    set * ways + quotient(row as u64, sets) as usize
 }

@@ -1,6 +1,7 @@
 use Rattle.std.proofs.Common.{sym, ap}
 use Rattle.mesi_dir.specs.CoreSets.{without_core}
 use Rattle.home.specs.HomeState.{HomeLine, unfetched_in}
+use Rattle.home.specs.Layout.{way_place}
 use Rattle.home.proofs.Homes.{home_with, row_changed_there, same_nowhere}
 use Rattle.home.proofs.home.Home.drop_fetcher.Goals as goal
 
@@ -10,7 +11,7 @@ returns-in-Some c =
     let s = c.self.inside in
     rw (← c.self.view_is)
     (ap (home_with s.met.dealt.number s.met.dealt.shards s.base s.size s.ways.ways s.bytes s.marks)
-    (row_changed_there c.self.invariant c.args.line c.in-Some.place c.in-Some.ensures.here (λ (row : HomeLine). record row { fetchers = without_core c.args.core row.fetchers }) c.remove_fetcher.ensures.changed))
+    (row_changed_there c.self.invariant c.args.line (way_place c.self.inside.ways.sets c.self.inside.ways.ways c.in-Some.row) c.in-Some.ensures.here c.in-Some.row c.in-Some.ensures.row (λ (row : HomeLine). record row { fetchers = without_core c.args.core row.fetchers }) c.remove_fetcher.ensures.changed))
 
 pub returns-in_default : goal.returns-in_default
 unfolding unfetched_in

@@ -1,9 +1,9 @@
-use Rattle.std.proofs.Common.{◌≡◌, ℕ, ◌*◌, ◌/◌, arith, ap, ap₂, length, map, sym, ◌∙◌}
+use Rattle.std.proofs.Common.{◌≡◌, ℕ, ◌*◌, ◌/◌, arith, ap, ap₂, length, sym, ◌∙◌}
 use Rattle.std.proofs.lemmas.List.{length-replicate}
 use Rattle.home.specs.FirstBytes.{first_bytes}
 use Rattle.home.specs.NewHome.{new_home}
 use Rattle.home.specs.RowChunks.{rows_in}
-use Rattle.home.specs.Rows.{line_in}
+use Rattle.home.specs.Layout.{lines_in}
 use Rattle.cache_set.proofs.Empty.{empty_aged, empty_sets}
 use Rattle.home.proofs.Homes.{same_home}
 use Rattle.home.proofs.KnownWays.{nothing_known}
@@ -33,6 +33,6 @@ pub returns : goal.returns
 unfolding new_home
 returns c =
     same_home c.args.number c.from-3.ensures c.base.ensures.value c.size.ensures c.in_ok-tags.ensures.ways
-    (rw (c.in_ok-tags.ensures.sets, c.in_ok-tags.ensures.ways, c.in_ok-tags.ensures.ages) (empty_sets c.args.sets c.args.ways c.in_ok-tags.tags.tags.items (map line_in (rows_in c.rows.inside.count c.rows.inside.chunks.places.items c.rows.inside.chunks.rows.items))))
+    (rw (c.in_ok-tags.ensures.sets, c.in_ok-tags.ensures.ways, c.in_ok-tags.ensures.ages) (empty_sets c.args.sets c.args.ways c.in_ok-tags.tags.tags.items (lines_in c.args.sets c.args.ways (rows_in c.rows.inside.count c.rows.inside.chunks.places.items c.rows.inside.chunks.rows.items))))
     (c.bytes.view_is ∙ c.in_ok-bytes.ensures ∙ ap (λ (shards : ℕ). first_bytes shards c.args.number c.args.image.now) c.from-2.ensures)
     c.in_ok-new.ensures

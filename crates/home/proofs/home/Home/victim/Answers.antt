@@ -18,4 +18,4 @@ returns-in-Some c =
     let below = next_within was c.args.line p full.next in
     let tag = value_at tags p c.index.result.now (omega (arith, below, was.ways_are.aged.tags_are)) c.index.ensures in
     rw (← c.self.view_is)
-    (sym (the_victim was c.args.line p full.next c.at.result.now c.at.ensures full.live ∙ ap (λ (t : ℕ). Some (t, line_in c.at.result.now)) tag))
+    (sym (the_victim was c.args.line p full.next c.row_place-row.result c.row_place-row.ensures c.at.result.now c.at.ensures full.live ∙ ap (λ (t : ℕ). Some (t, line_in c.at.result.now)) tag))
