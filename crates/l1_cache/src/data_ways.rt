@@ -28,6 +28,42 @@ impl DataWays {
         self.near[near_index(line, self.mask)].line == line && line < u64::MAX
     }
 
+    /// The way that has a line, if the table has the line.
+    #[inline(always)]
+    pub(crate) fn near(&self, line: u64) -> Option<usize>
+        requires { AreDataWays self.now }
+        ensures { IfSome result (HasAt self.now line) }
+    {
+        let entry = self.near[near_index(line, self.mask)];
+        if entry.line == line && line < u64::MAX {
+            return Some(entry.place as usize);
+        }
+        None
+    }
+
+    /// The way that has a line, if the table has the line and it is free to write. It is M and in
+    /// the table then.
+    #[inline(always)]
+    pub(crate) fn near_to_write(&mut self, line: u64) -> Option<usize>
+        requires ways { AreDataWays self.old }
+        requires line { line < 2 ^ 64 - 1 }
+        ensures here { IfSome result (λ place. HasAt self.old line place) }
+        ensures free { IfSome result (λ place. (slice_index_or self.old.kept.items place no_kept).free ≡ true) }
+        ensures kept { IfSome result (λ place. self.new.kept.items ≡ slice_set self.old.kept.items place to_write) }
+        ensures stays { IfNone result (self.new ≡ self.old) }
+        ensures ways { AreDataWays self.new }
+        ensures same { self.new ≡ record self.old { kept = self.new.kept; near = self.new.near } }
+    {
+        let entry = self.near[near_index(line, self.mask)];
+        if entry.line == line && entry.writes {
+            return Some(entry.place as usize);
+        }
+        if entry.line == line {
+            return self.write_to(line, entry.place as usize);
+        }
+        None
+    }
+
     /// The way that has a line, if the line is there.
     #[inline(always)]
     pub(crate) fn find(&self, line: u64) -> Option<usize>

@@ -1,5 +1,5 @@
 //! The L1 of one core.
-ghost use Rattle.std.specs.Prelude.{◌≡◌, ℕ, ◌+◌, ◌<◌, ◌≤◌, ◌^◌, false, if◌then◌else◌, is_some, length, option_map, unwrap_or, IfOk, IfSome, IfNone, IsSome, IsTrue, None};
+ghost use Rattle.std.specs.Prelude.{◌≡◌, ℕ, ◌+◌, ◌<◌, ◌≤◌, ◌^◌, false, true, if◌then◌else◌, is_some, length, option_map, unwrap_or, IfOk, IfSome, IfNone, IsSome, IsTrue, None};
 ghost use Rattle.zs_num.specs.Request.{addr_of, line_at, line_bytes, width_of};
 ghost use Rattle.zs_num.specs.declared.request.Request.TheVariants.{Load, Store, Fetch};
 ghost use Rattle.l1_cache.specs.L1State.{AreBytesOf, HasEntered, answered_in, copy_at, filled_in, given_up_in, has_instructions, instruction_filled_in, instruction_given_up_in, instruction_victim_in, is_private, kept_with_in, letter_of, new_l1, place_in_line, private_after, private_reply, set_free_in, shared_in, victim_in, written_in};
@@ -104,6 +104,70 @@ impl L1 {
             Request::Fetch { addr } => self.fetch::<T>(addr),
             Request::Lr { .. } | Request::Sc { .. } | Request::Amo { .. } => None,
         }
+    }
+
+    /// Serves an access as `serve_alone` does, but a load or a store only where the line is among
+    /// those that are found by one comparison. None: nothing changes, and `serve_alone` may serve it
+    /// all the same.
+    #[inline(always)]
+    #[tactic(auto, unfolding(crate::specs::L1State::is_private))]
+    pub fn serve_near<T>(&mut self, request: Request) -> Option<u64>
+        requires some { 1 ≤ width_of request }
+        requires few { width_of request ≤ 8 }
+        requires within { place_in_line (addr_of request) + width_of request ≤ line_bytes }
+        ensures private { IfSome result (λ reply. is_private self.old request ≡ true) }
+        ensures reply { IfSome result (λ reply. reply ≡ private_reply self.old request) }
+        ensures after { IfSome result (λ reply. self.new ≡ private_after self.old request) }
+        ensures none { IfNone result (self.new ≡ self.old) }
+    {
+        match request {
+            Request::Load { addr, width } => self.load_near::<T>(addr, width),
+            Request::Store { addr, width, value } => self.store_near::<T>(addr, width, value),
+            Request::Fetch { addr } => self.fetch::<T>(addr),
+            Request::Lr { .. } | Request::Sc { .. } | Request::Amo { .. } => None,
+        }
+    }
+
+    #[inline(always)]
+    fn load_near<T>(&mut self, addr: u64, width: u8) -> Option<u64>
+        requires some { 1 ≤ width }
+        requires few { width ≤ 8 }
+        requires within { place_in_line addr + width ≤ line_bytes }
+        ensures private { IfSome result (λ reply. is_private self.old (Load addr width) ≡ true) }
+        ensures reply { IfSome result (λ reply. reply ≡ private_reply self.old (Load addr width)) }
+        ensures after { IfSome result (λ reply. self.new ≡ private_after self.old (Load addr width)) }
+        ensures none { IfNone result (self.new ≡ self.old) }
+    {
+        let place = self.ways.near(addr / LINE)?;
+        let age = next_age(
+            &mut self.ways.tags.ages,
+            &mut self.ways.tags.tick,
+            self.ways.tags.sets,
+            self.ways.tags.ways,
+        );
+        self.ways.tags.ages[place] = age;
+        Some(numbers::read(&self.bytes[place], (addr % LINE) as usize, width))
+    }
+
+    #[inline(always)]
+    fn store_near<T>(&mut self, addr: u64, width: u8, value: u64) -> Option<u64>
+        requires few { width ≤ 8 }
+        requires within { place_in_line addr + width ≤ line_bytes }
+        ensures private { IfSome result (λ reply. is_private self.old (Store addr width value) ≡ true) }
+        ensures reply { IfSome result (λ reply. reply ≡ private_reply self.old (Store addr width value)) }
+        ensures after { IfSome result (λ reply. self.new ≡ private_after self.old (Store addr width value)) }
+        ensures none { IfNone result (self.new ≡ self.old) }
+    {
+        let place = self.ways.near_to_write(addr / LINE)?;
+        let age = next_age(
+            &mut self.ways.tags.ages,
+            &mut self.ways.tags.tick,
+            self.ways.tags.sets,
+            self.ways.tags.ways,
+        );
+        self.ways.tags.ages[place] = age;
+        numbers::write(&mut self.bytes[place], (addr % LINE) as usize, width, value);
+        Some(0)
     }
 
     #[inline(always)]

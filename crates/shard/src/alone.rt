@@ -5,13 +5,15 @@ ghost use Rattle.shard.specs.BankSteps.{bank_with};
 ghost use Rattle.shard.specs.PartsLaws.{AreParts, IsAsked};
 ghost use Rattle.shard.specs.SharedStep.{bank_after, bank_reply, met_at_bank};
 
-use crate::shared::serve_alone_at;
+use crate::shared::serve_near_at;
 use home::Home;
 use l1_cache::L1;
 use zs_num::Request;
 
 /// Serves an access of a core to a line of the home as `meet` does, where the core's own L1 can
-/// serve it alone: the answer is the reply. None: nothing changes.
+/// serve it alone, and a load or a store without a search of its sets: the answer is the reply.
+/// None: nothing changes. A line that is not at hand is mostly not there, and then the home says so
+/// before the L1 is searched for nothing.
 #[inline(always)]
 pub(crate) fn meet_alone<T>(
     _home: &Home,
@@ -27,5 +29,5 @@ pub(crate) fn meet_alone<T>(
     ensures none { IfNone result (l1s.new ≡ l1s.old) }
     ensures cores { length l1s.new ≡ length l1s.old }
 {
-    serve_alone_at::<T>(l1s, core, request)
+    serve_near_at::<T>(l1s, core, request)
 }

@@ -109,8 +109,9 @@ impl Parts {
         }
     }
 
-    /// The same where the core's own L1 can serve the access alone, which is a hit. None: nothing
-    /// changes. What is compiled for `T`, any type, is compiled for the callers that name it.
+    /// The same where the core's own L1 can serve the access alone and has its line at hand: a hit.
+    /// None: nothing changes, and `serve` serves it as it serves any. What is compiled for `T`, any
+    /// type, is compiled for the callers that name it.
     #[inline(always)]
     pub fn serve_alone<T>(
         &mut self,

@@ -1,5 +1,5 @@
 //! What an access of a core does to the home of its line and to the L1s of the cores.
-ghost use Rattle.std.specs.Prelude.{◌≡◌, ◌+◌, ◌<◌, ◌≤◌, IfSome, IsTrue, Some, false, true, if◌then◌else◌, is_some, length, slice_index_or};
+ghost use Rattle.std.specs.Prelude.{◌≡◌, ◌+◌, ◌<◌, ◌≤◌, IfNone, IfSome, IsTrue, Some, false, true, if◌then◌else◌, is_some, length, slice_index_or};
 ghost use Rattle.zs_num.specs.Request.{addr_of, is_fetch, line_bytes, line_of, width_of};
 ghost use Rattle.home.specs.HomeState.{evicted_by, row_at};
 ghost use Rattle.home.specs.Rows.{line_in};
@@ -95,6 +95,22 @@ pub(crate) fn serve_alone_at<T>(l1s: &mut [L1], core: u16, request: Request) -> 
     ensures cores { length l1s.new ≡ length l1s.old }
 {
     l1s[usize::from(core)].serve_alone::<T>(request)
+}
+
+/// The same, of a load or a store only where its line is at hand. None: nothing changes.
+#[inline(always)]
+pub(crate) fn serve_near_at<T>(l1s: &mut [L1], core: u16, request: Request) -> Option<u64>
+    requires core { core < length l1s.old }
+    requires some { 1 ≤ width_of request }
+    requires few { width_of request ≤ 8 }
+    requires within { place_in_line (addr_of request) + width_of request ≤ line_bytes }
+    ensures private { IfSome result (λ reply. is_private (slice_index_or l1s.old core no_l1) request ≡ true) }
+    ensures reply { IfSome result (λ reply. reply ≡ private_reply (slice_index_or l1s.old core no_l1) request) }
+    ensures after { IfSome result (λ reply. bank_with no_home l1s.new ≡ with_l1 core (λ l1. private_after l1 request) (bank_with no_home l1s.old)) }
+    ensures none { IfNone result (l1s.new ≡ l1s.old) }
+    ensures cores { length l1s.new ≡ length l1s.old }
+{
+    l1s[usize::from(core)].serve_near::<T>(request)
 }
 
 /// Serves one that the core's own L1 can't serve alone. `away` says that the L1 doesn't have the
