@@ -2,7 +2,7 @@
 ghost use Rattle.std.proofs.Props.{props};
 ghost use Rattle.std.specs.Prelude.{◌≡◌, ◌<◌, Some, length, slice_get};
 ghost use Rattle.event_graph.specs.PathInRange.{IsAccessPath};
-ghost use Rattle.noc_mesh.specs.NetTiming.{net_pieces};
+ghost use Rattle.noc_mesh.specs.NetTiming.{net_pieces, net_time};
 
 use crate::{course, events, laws};
 use event_graph::{AccessPath, Expand, Piece, Plain};
@@ -20,7 +20,6 @@ impl Net {
     ghost use Rattle.std.specs.Prelude.{◌≡◌, ◌&&◌, is_none};
     ghost use Rattle.machine_desc.specs.Machine.{IsMachine};
     ghost use Rattle.event_graph.specs.AccessPaths.{path_of};
-    ghost use Rattle.noc_mesh.specs.NetTiming.{net_time};
 
     /// The expansion of this machine.
     pub fn of(machine: &Machine) -> Net
@@ -47,23 +46,19 @@ impl Net {
     {
         Plain { path: self.path }
     }
-
-    /// The time of an access, of those too that go on from the core's own cache.
-    #[inline(never)]
-    fn time_beyond(&self, entry: &Entry) -> u64
-        ensures { result ≡ net_time self.now.path entry.now }
-    {
-        laws::nets_without_a_mesh_are_plain();
-        if self.is_plain() {
-            self.plain().time(entry)
-        } else {
-            course::ended(&self.path, entry).end
-        }
-    }
 }
 
-/// How many events an access has on its way over the mesh, or to open rows. It takes the access by
-/// value: where there is no such way, nobody has to put it together.
+/// The time of an access that goes over the mesh, or to open rows. It takes the access by value:
+/// where there is no such way, nobody has to put it together.
+#[inline(never)]
+fn time_beyond(path: &AccessPath, entry: Entry) -> u64
+    requires { IsAccessPath path.now }
+    ensures { result ≡ net_time path.now entry }
+{
+    course::ended(path, &entry).end
+}
+
+/// How many events such an access has.
 #[inline(never)]
 fn count_beyond(path: &AccessPath, entry: Entry) -> u16
     requires { IsAccessPath path.now }
@@ -129,9 +124,13 @@ impl Expand for Net {
 
     #[inline(always)]
     fn time(&self, entry: &Entry) -> u64 {
-        match entry.outcome {
-            Outcome::Hit => self.path.head(entry),
-            _ => self.time_beyond(entry),
+        laws::nets_without_a_mesh_are_plain();
+        if let Outcome::Hit = entry.outcome {
+            self.path.head(entry)
+        } else if self.is_plain() {
+            self.plain().time(entry)
+        } else {
+            time_beyond(&self.path, *entry)
         }
     }
 
