@@ -161,7 +161,8 @@ fn fire_rest<X: Expand, C: Component, A: Accesses, G: Gate>(
     )
 }
 
-/// All events of the one core fire. Answers how many they are.
+/// All events of the one core fire. Answers how many they are. How far the chain has come is kept
+/// beside it until all have fired, so that no access waits for what the one before wrote.
 pub(crate) fn fire_alone<X: Expand, C: Component, A: Accesses, G: Gate>(
     expand: &X,
     accesses: &A,
@@ -181,21 +182,26 @@ pub(crate) fn fire_alone<X: Expand, C: Component, A: Accesses, G: Gate>(
     ensures place { chain.new.place ≡ chain.old.place }
     ensures tallies { length tallies.new ≡ length tallies.old }
 {
+    let end = chain.end;
+    let mut access = chain.access;
+    let mut last = chain.last;
     let mut events = 0;
-    while chain.access < chain.end {
+    while access < end {
         let (count, done) = fire_access(
             expand,
             accesses,
-            chain.access,
+            access,
             &mut chain.ended,
-            chain.last,
+            last,
             comps,
             tallies,
             before,
         );
-        chain.access += 1;
-        chain.last = Some(done);
+        access += 1;
+        last = Some(done);
         events += u32::from(count);
     }
+    chain.access = access;
+    chain.last = last;
     events
 }
