@@ -53,7 +53,7 @@ begins_as op.Store load store single core after loaded stored met is loads store
 begins_as _ load store single core after loaded stored met is loads stores = cc
 
 -- the access that a slot meets is the one of its instruction
-meets : (image : MemoryImage) (memory : MemoryRange) (first count place : ℕ) (slot : Slot) (registers : List ℕ) (single : Single) → AccessesFor image (record { first = first; count = count }) place slot
+pub meets : (image : MemoryImage) (memory : MemoryRange) (first count place : ℕ) (slot : Slot) (registers : List ℕ) (single : Single) → AccessesFor image (record { first = first; count = count }) place slot
     → met_by slot memory registers ≡ Some single → Meets image memory registers (first + 4 * place) single
 meets image memory first count place slot registers single access met core same =
     let here = at core registers (first + 4 * place) in

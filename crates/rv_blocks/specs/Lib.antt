@@ -3,3 +3,4 @@ pub mod Decoded
 pub mod Flows
 pub mod Served
 pub mod Slots
+pub mod Tries

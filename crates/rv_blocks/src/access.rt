@@ -1,5 +1,5 @@
 //! The accesses of loads and stores.
-ghost use Rattle.std.specs.Prelude.{◌≡◌, ◌+◌, ◌-◌, ◌*◌, ◌^◌, ◌<◌, ◌≤◌, ℕ, false, [], ◌∷◌, nat_lt, ◌&&◌, slice_index, IfSome, IsTrue};
+ghost use Rattle.std.specs.Prelude.{◌≡◌, ◌+◌, ◌-◌, ◌*◌, ◌^◌, ◌<◌, ◌≤◌, ℕ, false, [], ◌∷◌, nat_lt, ◌&&◌, slice_index, Some, IfSome, IsTrue};
 ghost use Rattle.rv_core.specs.CoreState.{CoreState};
 ghost use Rattle.rv_core.specs.Executions.{at, Meets};
 ghost use Rattle.zs_num.specs.declared.request.Request.TheVariants as access;
@@ -8,11 +8,13 @@ ghost use Rattle.rv_core.specs.Effect.{received};
 ghost use Rattle.rv_core.specs.Single.{begun, single_load, single_store};
 ghost use Rattle.rv_blocks.specs.Flows.{is_access_flow, AccessesBy};
 ghost use Rattle.rv_blocks.specs.Served.{IsServed};
+ghost use Rattle.rv_blocks.specs.Tries.{is_served, met_in};
 ghost use Rattle.rv_blocks.specs.Slots.{address_by, destination_by, is_access, is_load, is_signed, is_store, loads_by, met_by, stores_by, width_of, AccessesFor};
 
 use crate::flow::Flow;
 use crate::hits::Left;
 use crate::slot::{Op, Slot};
+use crate::tried::Tried;
 use elf_load::Image;
 use rv_core::{Destination, MemoryRange, Port, Single, Stint, is_single, low_bytes};
 use rv_decode::Name;
@@ -52,8 +54,8 @@ struct Loads;
 struct Stores;
 
 /// Makes the access of a slot at which the loop stopped, if it is a load or a store, where it ends in
-/// time and the port serves it at once, and says whether it did. If not, nothing changes. `left` is
-/// what is left of the stint before the instruction, which takes a cycle of its own.
+/// time and the port serves it at once. If it doesn't, nothing changes. `left` is what is left of the
+/// stint before the instruction, which takes a cycle of its own.
 #[inline(always)]
 pub(crate) fn hit<Q: Port>(
     flow: Flow,
@@ -63,7 +65,7 @@ pub(crate) fn hit<Q: Port>(
     stint: &Stint,
     left: &Left,
     port: &mut Q,
-) -> bool
+) -> Tried
     requires access { AccessesBy flow slot.now.op }
     requires rd { slot.now.rd < 32 }
     requires rs1 { slot.now.rs1 < 32 }
@@ -73,29 +75,29 @@ pub(crate) fn hit<Q: Port>(
     requires base { Q.base port.old ≡ memory.now.base }
     requires size { Q.size port.old ≡ memory.now.size }
     requires room { 0 < left.now.accesses → 1 ≤ Q.room port.old }
-    ensures time { IsTrue result → stint.now.hit < left.now.cycles }
-    ensures few { IsTrue result → 0 < left.now.accesses }
-    ensures access { IsTrue result → IsTrue (is_access slot.now.op) }
-    ensures flow { IsTrue result → IsTrue (is_access_flow flow) }
-    ensures served { IsTrue result → IsServed memory.now Q.gives Q.core Q.logged slot.now (stint.now.end - left.now.cycles + 1) x.old port.old x.new port.new }
-    ensures none { result ≡ false → x.new ≡ x.old }
-    ensures same { result ≡ false → port.new ≡ port.old }
+    ensures time { IsTrue (is_served result) → stint.now.hit < left.now.cycles }
+    ensures few { IsTrue (is_served result) → 0 < left.now.accesses }
+    ensures access { IsTrue (is_served result) → IsTrue (is_access slot.now.op) }
+    ensures flow { IsTrue (is_served result) → IsTrue (is_access_flow flow) }
+    ensures served { IsTrue (is_served result) → IsServed memory.now Q.gives Q.core Q.logged slot.now (stint.now.end - left.now.cycles + 1) x.old port.old x.new port.new }
+    ensures none { is_served result ≡ false → x.new ≡ x.old }
+    ensures same { is_served result ≡ false → port.new ≡ port.old }
+    ensures early { IfSome (met_in result) (λ single. 0 < left.now.cycles) }
+    ensures met_flow { IfSome (met_in result) (λ single. IsTrue (is_access_flow flow)) }
+    ensures met { IfSome (met_in result) (λ single. met_by slot.now memory.now x.old ≡ Some single) }
     ensures port_core { Q.core port.new ≡ Q.core port.old }
     ensures port_base { Q.base port.new ≡ Q.base port.old }
     ensures port_size { Q.size port.new ≡ Q.size port.old }
     ensures port_l1i { Q.l1i port.new ≡ Q.l1i port.old }
     ensures port_room { Q.room port.old ≤ Q.room port.new + 1 }
 {
+    if !may_hit(stint, left) {
+        return Tried::Not;
+    }
     match flow {
-        Flow::Load => {
-            may_hit(stint, left)
-                && load_hit::<Q>(slot, x, memory, stint.end - (left.cycles - 1), port)
-        }
-        Flow::Store => {
-            may_hit(stint, left)
-                && store_hit::<Q>(slot, x, memory, stint.end - (left.cycles - 1), port)
-        }
-        _ => false,
+        Flow::Load => load_hit::<Q>(slot, x, memory, stint.end - (left.cycles - 1), port),
+        Flow::Store => store_hit::<Q>(slot, x, memory, stint.end - (left.cycles - 1), port),
+        _ => Tried::Not,
     }
 }
 
@@ -107,8 +109,8 @@ fn may_hit(stint: &Stint, left: &Left) -> bool
     left.cycles > stint.hit && left.accesses > 0
 }
 
-/// Makes the access of a load, where it is of one line and the port serves it at once, and says
-/// whether it did. If not, nothing changes.
+/// Makes the access of a load, where it is of one line and the port serves it at once. If it
+/// doesn't, nothing changes.
 #[inline(always)]
 fn load_hit<Q: Port>(
     slot: &Slot,
@@ -116,7 +118,7 @@ fn load_hit<Q: Port>(
     memory: &MemoryRange,
     start: Cycle,
     port: &mut Q,
-) -> bool
+) -> Tried
     requires is_load { slot.now.op ≡ Op.Load }
     requires rd { slot.now.rd < 32 }
     requires rs1 { slot.now.rs1 < 32 }
@@ -124,9 +126,10 @@ fn load_hit<Q: Port>(
     requires base { Q.base port.old ≡ memory.now.base }
     requires size { Q.size port.old ≡ memory.now.size }
     requires room { 1 ≤ Q.room port.old }
-    ensures served { IsTrue result → IsServed memory.now Q.gives Q.core Q.logged slot.now start x.old port.old x.new port.new }
-    ensures none { result ≡ false → x.new ≡ x.old }
-    ensures same { result ≡ false → port.new ≡ port.old }
+    ensures served { IsTrue (is_served result) → IsServed memory.now Q.gives Q.core Q.logged slot.now start x.old port.old x.new port.new }
+    ensures none { is_served result ≡ false → x.new ≡ x.old }
+    ensures same { is_served result ≡ false → port.new ≡ port.old }
+    ensures met { IfSome (met_in result) (λ single. met_by slot.now memory.now x.old ≡ Some single) }
     ensures port_core { Q.core port.new ≡ Q.core port.old }
     ensures port_base { Q.base port.new ≡ Q.base port.old }
     ensures port_size { Q.size port.new ≡ Q.size port.old }
@@ -136,16 +139,32 @@ fn load_hit<Q: Port>(
     let addr = x[slot.rs1 as usize].wrapping_add(slot.value);
     let width = width_of::<(Q, Loads)>(slot.name);
     if !is_single(memory, addr, width) {
-        return false;
+        return Tried::Not;
     }
     match port.load_hit(start, addr, width) {
         Some(reply) => {
             if slot.rd != 0 {
                 x[slot.rd as usize] = loaded(slot.name, width, reply);
             }
-            true
+            Tried::Served
         }
-        None => false,
+        None => {
+            let destination = destination(slot, width);
+            Tried::Meets(Single::Load { addr, destination })
+        }
+    }
+}
+
+/// What gets the number of a load of so many bytes.
+#[inline(always)]
+fn destination(slot: &Slot, width: u8) -> Destination
+    requires { width ≡ width_of slot.now.name }
+    ensures { result ≡ destination_by slot.now }
+{
+    Destination {
+        rd: u16::from(slot.rd),
+        width,
+        signed: is_signed(slot.name),
     }
 }
 
@@ -172,7 +191,7 @@ fn store_hit<Q: Port>(
     memory: &MemoryRange,
     start: Cycle,
     port: &mut Q,
-) -> bool
+) -> Tried
     requires is_store { slot.now.op ≡ Op.Store }
     requires rs1 { slot.now.rs1 < 32 }
     requires rs2 { slot.now.rs2 < 32 }
@@ -180,8 +199,9 @@ fn store_hit<Q: Port>(
     requires base { Q.base port.old ≡ memory.now.base }
     requires size { Q.size port.old ≡ memory.now.size }
     requires room { 1 ≤ Q.room port.old }
-    ensures served { IsTrue result → IsServed memory.now Q.gives Q.core Q.logged slot.now start x.now port.old x.now port.new }
-    ensures same { result ≡ false → port.new ≡ port.old }
+    ensures served { IsTrue (is_served result) → IsServed memory.now Q.gives Q.core Q.logged slot.now start x.now port.old x.now port.new }
+    ensures same { is_served result ≡ false → port.new ≡ port.old }
+    ensures met { IfSome (met_in result) (λ single. met_by slot.now memory.now x.now ≡ Some single) }
     ensures port_core { Q.core port.new ≡ Q.core port.old }
     ensures port_base { Q.base port.new ≡ Q.base port.old }
     ensures port_size { Q.size port.new ≡ Q.size port.old }
@@ -190,8 +210,15 @@ fn store_hit<Q: Port>(
 {
     let addr = x[slot.rs1 as usize].wrapping_add(slot.value);
     let width = width_of::<(Q, Stores)>(slot.name);
-    is_single(memory, addr, width)
-        && port.store_hit(start, addr, width, low_bytes(width, x[slot.rs2 as usize]))
+    if !is_single(memory, addr, width) {
+        return Tried::Not;
+    }
+    let value = low_bytes(width, x[slot.rs2 as usize]);
+    if port.store_hit(start, addr, width, value) {
+        Tried::Served
+    } else {
+        Tried::Meets(Single::Store { addr, width, value })
+    }
 }
 
 /// That of a load of so many bytes.
@@ -204,12 +231,7 @@ fn load<T>(slot: &Slot, width: u8, x: &[u64; 32], memory: &MemoryRange) -> Optio
     ensures begins { IfSome result (λ single. (core : CoreState) (pc : ℕ) → core.memory ≡ memory.now → begun single (at core x.now pc) ≡ loads_by slot.now (at core x.now pc)) }
 {
     let addr = x[slot.rs1 as usize].wrapping_add(slot.value);
-    let destination = Destination {
-        rd: u16::from(slot.rd),
-        width,
-        signed: is_signed(slot.name),
-    };
-    Single::load(memory, addr, destination)
+    Single::load(memory, addr, destination(slot, width))
 }
 
 /// That of a store.

@@ -5,7 +5,7 @@ ghost use Rattle.rv_blocks.specs.Slots.{AreSlots};
 
 use crate::access::met;
 use crate::blocks::{OneByOne, Rest, lies_in, one_by_one};
-use crate::hits::Gone;
+use crate::hits::Halt;
 use crate::slot::{Slot, slot_at};
 use elf_load::Image;
 use rv_core::{MemoryRange, Ran, Single};
@@ -73,23 +73,31 @@ pub fn run_last(
     ran_to::<OneByOne>(image, slots, first, x, last, most, memory, None)
 }
 
-/// The access to which the loop over hits came, if its instruction may be executed there.
+/// The access to which the loop over hits came, if its instruction may be executed there: the one that
+/// it answered, where it answered one.
 #[inline(always)]
 pub fn met_at<T>(
     image: &Image,
     slots: &[Slot],
     first: u64,
     x: &[u64; 32],
-    gone: &Gone,
+    halt: &Halt,
     memory: &MemoryRange,
 ) -> Option<Single>
     requires slots { AreSlots image.now first slots.now }
-    requires place { gone.now.place < length slots.now }
+    requires place { halt.now.gone.place < length slots.now }
     requires reach { memory.now.base + memory.now.size ≤ 2 ^ 48 }
-    ensures early { IfSome result (λ single. 0 < gone.now.left.cycles) }
-    ensures met { IfSome result (λ single. Meets image.now memory.now x.now (first + 4 * gone.now.place) single) }
-    ensures lies { IfSome result (λ single. LiesIn gone.now.line (first + 4 * gone.now.place)) }
+    requires early { IfSome halt.now.met (λ single. 0 < halt.now.gone.left.cycles) }
+    requires met { IfSome halt.now.met (λ single. Meets image.now memory.now x.now (first + 4 * halt.now.gone.place) single) }
+    requires lies { IfSome halt.now.met (λ single. LiesIn halt.now.gone.line (first + 4 * halt.now.gone.place)) }
+    ensures early { IfSome result (λ single. 0 < halt.now.gone.left.cycles) }
+    ensures met { IfSome result (λ single. Meets image.now memory.now x.now (first + 4 * halt.now.gone.place) single) }
+    ensures lies { IfSome result (λ single. LiesIn halt.now.gone.line (first + 4 * halt.now.gone.place)) }
 {
+    if halt.met.is_some() {
+        return halt.met;
+    }
+    let gone = &halt.gone;
     if gone.left.cycles == 0 || !lies_in(gone.line, first + 4 * gone.place as u64) {
         return None;
     }

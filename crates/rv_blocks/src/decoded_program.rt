@@ -271,11 +271,11 @@ impl Program for DecodedProgram<'_> {
         let (image, slots, first) = (self.image, &self.slots, self.first);
         match place_of(pc, first, slots.len()) {
             Some(place) => {
-                let gone = by_hits::<Q>(
+                let halt = by_hits::<Q>(
                     image, slots, first, registers, place, line, memory, stint, port,
                 );
-                let met = met_at::<Q>(image, slots, first, registers, &gone, memory);
-                came_by(first, stint, gone, met)
+                let met = met_at::<Q>(image, slots, first, registers, &halt, memory);
+                came_by(first, stint, halt.gone, met)
             }
             None => Came::nowhere(pc, line, stint.clock),
         }

@@ -1,6 +1,6 @@
 //! The loop over hits.
-ghost use Rattle.std.specs.Prelude.{◌≡◌, ◌+◌, ◌-◌, ◌*◌, ◌%◌, ◌^◌, ◌≤◌, ◌<◌, None, false, length, IsSome, IsTrue};
-ghost use Rattle.rv_core.specs.Executions.{LiesIn};
+ghost use Rattle.std.specs.Prelude.{◌≡◌, ◌+◌, ◌-◌, ◌*◌, ◌%◌, ◌^◌, ◌≤◌, ◌<◌, None, false, length, IfSome, IsSome, IsTrue};
+ghost use Rattle.rv_core.specs.Executions.{LiesIn, Meets};
 ghost use Rattle.rv_core.specs.Hits.{HasGoneOn};
 ghost use Rattle.rv_blocks.specs.Coming.{moment_at, HasCome};
 ghost use Rattle.rv_blocks.specs.Flows.{is_access_flow, is_apart, AccessesAt};
@@ -11,8 +11,9 @@ use crate::blocks::{Stop, by_blocks};
 use crate::flow::Flow;
 use crate::line::{by_line, fetched};
 use crate::slot::{Slot, slot_at};
+use crate::tried::Tried;
 use elf_load::Image;
-use rv_core::{MemoryRange, Port, Stint};
+use rv_core::{MemoryRange, Port, Single, Stint};
 use zs_num::LINE;
 
 /// What is left of a stint: how many cycles and how many accesses. For `waited` cycles of it the
@@ -40,11 +41,19 @@ struct Reached {
     flow: Flow,
 }
 
+/// Where a core has gone, and the access to which it came there, if the port was asked for it.
+#[derive(Clone, Copy)]
+pub struct Halt {
+    pub gone: Gone,
+    pub met: Option<Single>,
+}
+
 /// The loop of a core that fetches, as a type.
 struct ByLine;
 
 /// Executes instructions, each of which takes a cycle, from the one of the slot at a place on, and
-/// loads, stores and fetches that the port serves at once.
+/// loads, stores and fetches that the port serves at once. It answers also the access that the port
+/// did not serve, where it was asked for one last.
 #[inline(always)]
 pub fn by_hits<Q: Port>(
     image: &Image,
@@ -56,7 +65,7 @@ pub fn by_hits<Q: Port>(
     memory: &MemoryRange,
     stint: &Stint,
     port: &mut Q,
-) -> Gone
+) -> Halt
     requires slots { AreSlots image.now first slots.now }
     requires place { place < length slots.now }
     requires reach { memory.now.base + memory.now.size ≤ 2 ^ 48 }
@@ -66,12 +75,15 @@ pub fn by_hits<Q: Port>(
     requires aligned { IsSome line → first % 4 ≡ 0 }
     requires room { stint.now.accesses ≤ Q.room port.old }
     requires begins { stint.now.clock ≤ stint.now.end }
-    ensures place { result.place < length slots.now }
-    ensures left { result.left.cycles + result.left.waited ≤ stint.now.end - stint.now.clock }
-    ensures accesses { result.left.accesses ≤ stint.now.accesses }
-    ensures gone { HasGoneOn image.now memory.now stint.now Q.gives Q.core Q.logged Q.room (stint.now.accesses - result.left.accesses) (record { registers = x.old; pc = first + 4 * place; line = line; clock = stint.now.clock; count = 0; port = port.old }) (moment_at stint.now x.new (first + 4 * result.place) result.line result.left port.new) }
-    ensures line { IsSome line → IsSome result.line }
-    ensures no_line { line ≡ None → result.line ≡ None }
+    ensures place { result.gone.place < length slots.now }
+    ensures left { result.gone.left.cycles + result.gone.left.waited ≤ stint.now.end - stint.now.clock }
+    ensures accesses { result.gone.left.accesses ≤ stint.now.accesses }
+    ensures gone { HasGoneOn image.now memory.now stint.now Q.gives Q.core Q.logged Q.room (stint.now.accesses - result.gone.left.accesses) (record { registers = x.old; pc = first + 4 * place; line = line; clock = stint.now.clock; count = 0; port = port.old }) (moment_at stint.now x.new (first + 4 * result.gone.place) result.gone.line result.gone.left port.new) }
+    ensures line { IsSome line → IsSome result.gone.line }
+    ensures no_line { line ≡ None → result.gone.line ≡ None }
+    ensures early { IfSome result.met (λ single. 0 < result.gone.left.cycles) }
+    ensures met { IfSome result.met (λ single. Meets image.now memory.now x.new (first + 4 * result.gone.place) single) }
+    ensures lies { IfSome result.met (λ single. LiesIn result.gone.line (first + 4 * result.gone.place)) }
     ensures port_core { Q.core port.new ≡ Q.core port.old }
     ensures port_base { Q.base port.new ≡ Q.base port.old }
     ensures port_size { Q.size port.new ≡ Q.size port.old }
@@ -90,8 +102,20 @@ pub fn by_hits<Q: Port>(
             Flow::On | Flow::To(_) => {}
             flow => {
                 let slot = slot_at(slots, here.place);
-                if !hit::<Q>(flow, slot, x, memory, stint, &here.left, port) {
-                    return here;
+                match hit::<Q>(flow, slot, x, memory, stint, &here.left, port) {
+                    Tried::Served => {}
+                    Tried::Meets(single) => {
+                        return Halt {
+                            gone: here,
+                            met: Some(single),
+                        };
+                    }
+                    Tried::Not => {
+                        return Halt {
+                            gone: here,
+                            met: None,
+                        };
+                    }
                 }
                 here.left.accesses -= 1;
                 here.left.waited += stint.hit;

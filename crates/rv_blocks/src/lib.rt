@@ -16,5 +16,6 @@ mod line;
 mod making;
 mod perform;
 mod slot;
+mod tried;
 
 pub use decoded_program::DecodedProgram;
