@@ -5,4 +5,6 @@ mod Ordered
 mod Steps
 mod Walk
 mod InTurns
+mod Stretches
+mod Cleared
 pub mod Restamps

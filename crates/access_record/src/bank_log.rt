@@ -108,6 +108,7 @@ impl BankLog {
         ensures some { 0 < self.now.banks }
         ensures few { self.now.banks ≤ 64 }
         ensures room { length self.now.entries ≤ self.now.room }
+        ensures short { length self.now.entries < 2 ^ 32 }
     {
         &self.bytes
     }

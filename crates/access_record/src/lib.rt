@@ -5,6 +5,7 @@
 
 mod accesses;
 mod bank_log;
+mod buffers;
 mod core_marks;
 pub mod laws;
 mod listed;
@@ -18,6 +19,7 @@ mod turns;
 
 pub use accesses::recorded_accesses;
 pub use bank_log::{BankLog, bank_of_byte, has_events};
+pub use buffers::OrderBuffers;
 pub use order::recorded_cores;
 pub use record::Record;
 pub use record_log::RecordLog;

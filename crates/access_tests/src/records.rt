@@ -3,7 +3,9 @@ ghost use Rattle.std.specs.Prelude.{◌≡◌, ◌%◌, ◌/◌, [], ◌∷◌, 
 ghost use Rattle.zs_num.specs.declared.entry.Outcome.TheVariants.{Hit};
 ghost use Rattle.zs_num.specs.declared.request.Request.TheVariants.{Load};
 
-use access_record::{BankLog, Record, RecordLog, Turns, bank_of_byte, has_events, recorded_cores};
+use access_record::{
+    BankLog, OrderBuffers, Record, RecordLog, Turns, bank_of_byte, has_events, recorded_cores,
+};
 use std::alloc::Global;
 use std::process::Abort;
 use std::test::Fail;
@@ -72,17 +74,17 @@ fn one_access(
 }
 
 /// The cores in recorded order, where core 1 took its turn first and both went to one bank.
-fn on_one_bank(alloc: Global) -> Result<Vec<u16>, NoMemory> {
+fn on_one_bank(alloc: Global, buffers: &mut OrderBuffers) -> Result<Vec<u16>, NoMemory> {
     let first = one_access(alloc, 0, 0, 2, 65_536)?;
     let second = one_access(alloc, 1, 0, 1, 65_536)?;
-    recorded_cores(alloc, &[first, second], Turns::Listed(&[1, 0]), 2)
+    recorded_cores(alloc, &[first, second], Turns::Listed(&[1, 0]), 2, buffers)
 }
 
 /// The same, where they went to different banks.
-fn on_two_banks(alloc: Global) -> Result<Vec<u16>, NoMemory> {
+fn on_two_banks(alloc: Global, buffers: &mut OrderBuffers) -> Result<Vec<u16>, NoMemory> {
     let first = one_access(alloc, 0, 1, 1, 65_600)?;
     let second = one_access(alloc, 1, 0, 1, 65_536)?;
-    recorded_cores(alloc, &[first, second], Turns::Listed(&[1, 0]), 2)
+    recorded_cores(alloc, &[first, second], Turns::Listed(&[1, 0]), 2, buffers)
 }
 
 /// Checks cores.
@@ -92,8 +94,10 @@ fn are_cores(rt: &impl Abort, found: &[u16], wanted: &[u16]) {
 
 #[test]
 fn turns_count_only_at_one_bank(rt: HostRuntime) -> Result<(), Fail> {
-    are_cores(&rt, &on_one_bank(rt.alloc())?, &[1, 0]);
-    are_cores(&rt, &on_two_banks(rt.alloc())?, &[0, 1]);
+    // What the first leaves goes on to the second.
+    let mut buffers = OrderBuffers::none();
+    are_cores(&rt, &on_one_bank(rt.alloc(), &mut buffers)?, &[1, 0]);
+    are_cores(&rt, &on_two_banks(rt.alloc(), &mut buffers)?, &[0, 1]);
     Ok(())
 }
 

@@ -20,7 +20,7 @@ use crate::TurnsFail;
 use crate::listed_turns::take_turns;
 use crate::running::run_cores;
 use crate::turn_port::TurnPort;
-use access_record::{BankLog, RecordLog, Turns, recorded_accesses, recorded_cores};
+use access_record::{BankLog, OrderBuffers, RecordLog, Turns, recorded_accesses, recorded_cores};
 use bound_core::{BESIDE_CYCLES, BoundCore, PartsPort};
 use elf_load::Image;
 use machine_desc::Machine;
@@ -199,13 +199,18 @@ impl Recorder {
 
     /// The cores of the interval's accesses, in recorded order. These are the turns by which the
     /// accesses were made.
-    pub fn recorded_cores(&self, alloc: Global, turns: Turns<'_>) -> Result<Vec<u16>, NoMemory>
+    pub fn recorded_cores(
+        &self,
+        alloc: Global,
+        turns: Turns<'_>,
+        buffers: &mut OrderBuffers,
+    ) -> Result<Vec<u16>, NoMemory>
         requires { AreTakenIn turns self.now }
         ensures { IfOk result (λ list. list.items ≡ map (λ e. e.core) (recorded_order (entries_of self.now))) }
     {
         access_log::laws::stamps_rise();
         access_log::laws::cores_decide_the_order();
-        recorded_cores(alloc, &self.logs, turns, self.banks)
+        recorded_cores(alloc, &self.logs, turns, self.banks, buffers)
     }
 
     /// The accesses that make events, in recorded order, as their records give them back. These are

@@ -14,7 +14,7 @@ use crate::Recording;
 use crate::records::weave_recorded;
 use crate::simulation::{Simulation, delay_all};
 use crate::weaving::intervals_are_woven;
-use access_record::Turns;
+use access_record::{OrderBuffers, Turns};
 use bound_core::BoundCore;
 use bound_workers::{Share, WorkBuffers, bound_by};
 use crew::{Asker, Post};
@@ -52,6 +52,7 @@ pub fn run_interval<'a, R: Threads + Wait + Sync, G: Gate>(
     domains_are_worth: &mut bool,
     recording: &mut Recording,
     chain_buffers: &mut ChainBuffers,
+    order_buffers: &mut OrderBuffers,
     buffers: &mut WorkBuffers,
 ) -> Result<(Simulation, Vec<u16>), NoMemory>
     requires pace { (pace.old ≤ 64) × (pace.old ≤ length posts.now + 1) }
@@ -90,6 +91,7 @@ pub fn run_interval<'a, R: Threads + Wait + Sync, G: Gate>(
         domains_are_worth,
         recording,
         chain_buffers,
+        order_buffers,
     )?;
     Ok((simulation, cores))
 }
@@ -215,6 +217,7 @@ fn weave_all<R: Threads + Sync, G: Gate>(
     domains_are_worth: &mut bool,
     recording: &mut Recording,
     chain_buffers: &mut ChainBuffers,
+    order_buffers: &mut OrderBuffers,
 ) -> Result<Vec<u16>, NoMemory>
     requires workers { (1 ≤ workers) × (workers ≤ 64) }
     requires machine { IsMachine machine.now }
@@ -237,7 +240,9 @@ fn weave_all<R: Threads + Sync, G: Gate>(
     bound_core::laws::phases_are_histories();
     bound_core::laws::intervals_begin();
     intervals_are_woven();
-    let cores = simulation.recorder.recorded_cores(alloc, turns)?;
+    let cores = simulation
+        .recorder
+        .recorded_cores(alloc, turns, order_buffers)?;
     let delays = weave_recorded(
         rt,
         alloc,

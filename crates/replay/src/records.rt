@@ -16,7 +16,7 @@ use crate::chains::weave_lists;
 use crate::firing::fire_all;
 use crate::first_passes::LaterPasses;
 use crate::weaving::{events_of, intervals_are_woven, woven_of};
-use access_record::Turns;
+use access_record::{OrderBuffers, Turns};
 use bound_records::Recorder;
 use component::{Comp, Comps};
 use event_graph::{FiredList, Graph};
@@ -278,7 +278,7 @@ fn weave_on_one_list(
     ensures { IfOk result (IsTakenIn (recorded_interval machine.now comps.old recorder.now) comps.old comps.new counters.old counters.new) }
 {
     let mut off = Recording::Off;
-    let order = recorder.recorded_cores(alloc, turns)?;
+    let order = recorder.recorded_cores(alloc, turns, &mut OrderBuffers::none())?;
     let graph = recorded_events(alloc, machine, net, recorder, turns, &order, comps)?;
     let fired = weave_seq(alloc, &graph, comps)?;
     let delays = take_in(

@@ -15,6 +15,7 @@ use crate::interval::run_interval;
 use crate::simulation::Simulation;
 use crate::{Final, Recording};
 use access_log::Schedule;
+use access_record::OrderBuffers;
 use bound_workers::{Share, WorkBuffers};
 use component::laws::fresh_components_are_there;
 use crew::{Asker, Crew, Post, end_all, run_beside};
@@ -254,6 +255,7 @@ fn run_on<'a, R: Threads + Wait + Sync, G: Gate>(
     let mut pace = Pace::here(rt, workers.min(machine.cores));
     let weavers = workers.min(machine.domains.count);
     let mut chain_buffers = ChainBuffers::new(alloc);
+    let mut order_buffers = OrderBuffers::none();
     let mut work_buffers = WorkBuffers::none();
     let mut domains_are_worth = true;
     let mut k = 0;
@@ -279,6 +281,7 @@ fn run_on<'a, R: Threads + Wait + Sync, G: Gate>(
             &mut domains_are_worth,
             recording,
             &mut chain_buffers,
+            &mut order_buffers,
             &mut work_buffers,
         )?;
         simulation = next;
