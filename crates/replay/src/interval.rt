@@ -77,7 +77,8 @@ pub fn run_interval<'a, R: Threads + Wait + Sync, G: Gate>(
         simulation, rt, alloc, machine, program, net, end, runners, gate, posts, askers, buffers,
     )?;
     let instructions = instructions_of(&simulation.cores).saturating_sub(before);
-    pace.learn(runners, load_of(instructions, simulation.recorder.counts()));
+    let load = load_of(instructions, simulation.recorder.counts(), pace.all());
+    pace.learn(runners, load);
     let cores = weave_all(
         &mut simulation,
         rt,
@@ -117,9 +118,9 @@ fn instructions_of(cores: &[BoundCore]) -> u64 {
     sum
 }
 
-/// So many instructions, and the accesses that were counted. Of each the greatest number where they
-/// are more.
-fn load_of(instructions: u64, counts: &[CoreCount]) -> Load {
+/// So many instructions, and the accesses that were counted, where so many workers would share the
+/// cores. Of each the greatest number where they are more.
+fn load_of(instructions: u64, counts: &[CoreCount], workers: u16) -> Load {
     let mut own: u64 = 0;
     let mut upgrades: u64 = 0;
     let mut others: u64 = 0;
@@ -135,7 +136,29 @@ fn load_of(instructions: u64, counts: &[CoreCount]) -> Load {
         accesses: own.saturating_add(shared),
         shared,
         upgrades,
+        busiest: busiest_of(counts, workers),
     }
+}
+
+/// How many of the accesses are of that worker of so many, 64 at most, whose cores have most.
+fn busiest_of(counts: &[CoreCount], workers: u16) -> u64 {
+    let workers = usize::from(workers.max(1));
+    let mut sums: [u64; 64] = [0; 64];
+    let mut most: u64 = 0;
+    for (number, count) in counts.iter().enumerate() {
+        let worker = (number % workers).min(63);
+        let sum = sums[worker].saturating_add(accesses_of(count));
+        sums[worker] = sum;
+        most = most.max(sum);
+    }
+    most
+}
+
+/// How many accesses were counted of a core.
+fn accesses_of(count: &CoreCount) -> u64 {
+    let shared = count.l2hits.saturating_add(count.misses);
+    let own = count.hits.saturating_add(count.upgrades);
+    own.saturating_add(shared)
 }
 
 /// The bound phase of an interval, of whose accesses the simulation then has the records. The cores

@@ -3,13 +3,12 @@
 use std::process::Abort;
 use worker_pace::{Load, Pace};
 
-/// How many intervals the first round has, and in how many of them what runs is tried.
-const ROUND: u32 = 16;
+/// How many intervals are the first ones: all run one, and then one worker does.
+const FIRST: u32 = 2;
 
-const TRIED: u32 = 4;
-
-/// So many instructions and accesses, of which so many are shared, and so many of these upgrades.
-type Loads = (u64, u64, u64, u64);
+/// So many instructions and accesses, of which so many are shared, and so many of these upgrades; and
+/// so many accesses are the busiest worker's.
+type Loads = (u64, u64, u64, u64, u64);
 
 fn load(of: Loads) -> Load {
     Load {
@@ -17,6 +16,7 @@ fn load(of: Loads) -> Load {
         accesses: of.1,
         shared: of.2,
         upgrades: of.3,
+        busiest: of.4,
     }
 }
 
@@ -29,53 +29,51 @@ fn go_on(pace: &mut Pace, intervals: u32, alone: Loads, among: Loads) {
     }
 }
 
+/// Much work, of which nothing is shared: 1900 microseconds, or a quarter and 410 more.
+static MUCH: Loads = (1_000_000, 100_000, 0, 0, 25_000);
+
+/// The same, all of one worker's cores.
+static UNEVEN: Loads = (1_000_000, 100_000, 0, 0, 100_000);
+
+/// Most is shared: 1850 microseconds, or 1152.
+static SHARED: Loads = (100_000, 20_000, 20_000, 0, 5_000);
+
+/// The same, and all are upgrades: 10 milliseconds more.
+static UPGRADES: Loads = (100_000, 20_000, 20_000, 20_000, 5_000);
+
+/// 195 microseconds, or 101.
+static SOME: Loads = (100_000, 10_000, 60, 0, 2_500);
+
+/// What is shared only while all run.
+static MORE_SHARED: Loads = (100_000, 10_000, 160, 0, 2_500);
+
+/// Little work: 19 microseconds.
+static LITTLE: Loads = (10_000, 1_000, 0, 0, 250);
+
+/// More than can be counted.
+static MOST: Loads = (u64::MAX, u64::MAX, u64::MAX, u64::MAX, u64::MAX);
+
 /// On so many processors, what intervals have that one worker runs, and those that all run: how many
-/// run the next.
-static CHOICES: [(u16, Loads, Loads, u16); 10] = [
-    // Much work, of which nothing is shared: 1900 microseconds, or a quarter and 410 more.
-    (4, (1_000_000, 100_000, 0, 0), (1_000_000, 100_000, 0, 0), 4),
-    // Little work: 19 microseconds.
-    (4, (10_000, 1_000, 0, 0), (10_000, 1_000, 0, 0), 1),
-    // Most is shared: 1850 microseconds, or 1152.
-    (
-        4,
-        (100_000, 20_000, 20_000, 0),
-        (100_000, 20_000, 20_000, 0),
-        4,
-    ),
-    (
-        2,
-        (100_000, 20_000, 20_000, 0),
-        (100_000, 20_000, 20_000, 0),
-        1,
-    ),
-    // Upgrades: 10 milliseconds more.
-    (
-        4,
-        (100_000, 20_000, 20_000, 20_000),
-        (100_000, 20_000, 20_000, 20_000),
-        1,
-    ),
-    // What is shared while all run is no more: 195 microseconds, or 101. Or it is.
-    (4, (100_000, 10_000, 60, 0), (100_000, 10_000, 60, 0), 4),
-    (4, (100_000, 10_000, 60, 0), (100_000, 10_000, 160, 0), 1),
-    // One processor, and a number that no system has.
-    (1, (1_000_000, 100_000, 0, 0), (1_000_000, 100_000, 0, 0), 1),
-    (0, (1_000_000, 100_000, 0, 0), (1_000_000, 100_000, 0, 0), 1),
-    // More than can be counted.
-    (
-        4,
-        (u64::MAX, u64::MAX, u64::MAX, u64::MAX),
-        (u64::MAX, u64::MAX, u64::MAX, u64::MAX),
-        1,
-    ),
+/// run the next. The last number of processors is one that no system has.
+static CHOICES: [(u16, &Loads, &Loads, u16); 11] = [
+    (4, &MUCH, &MUCH, 4),
+    (4, &UNEVEN, &UNEVEN, 1),
+    (4, &LITTLE, &LITTLE, 1),
+    (4, &SHARED, &SHARED, 4),
+    (2, &SHARED, &SHARED, 1),
+    (4, &UPGRADES, &UPGRADES, 1),
+    (4, &SOME, &SOME, 4),
+    (4, &SOME, &MORE_SHARED, 1),
+    (4, &MOST, &MOST, 1),
+    (1, &MUCH, &MUCH, 1),
+    (0, &MUCH, &MUCH, 1),
 ];
 
 #[test]
 fn workers_are_as_many_as_the_intervals_were_worth(rt: HostRuntime) {
     for &(processors, alone, among, wanted) in &CHOICES {
         let mut pace = Pace::new(4, processors);
-        go_on(&mut pace, TRIED, alone, among);
+        go_on(&mut pace, FIRST, *alone, *among);
         assert!(&rt; pace.workers() == wanted);
     }
 }
@@ -90,20 +88,34 @@ fn run_by(rt: &impl Abort, pace: &mut Pace, intervals: u32, wanted: u16) {
 }
 
 #[test]
-fn all_and_one_are_tried_at_the_begin_of_a_round(rt: HostRuntime) {
+fn all_are_tried_less_and_less_often(rt: HostRuntime) {
     let mut pace = Pace::new(4, 4);
-    for _ in 0..2u32 {
-        run_by(&rt, &mut pace, TRIED / 2, 4);
-        run_by(&rt, &mut pace, ROUND - TRIED / 2, 1);
+    for &ones in &[3_u32, 11, 47] {
+        run_by(&rt, &mut pace, 1, 4);
+        run_by(&rt, &mut pace, ones, 1);
     }
+    run_by(&rt, &mut pace, 1, 4);
 }
 
 #[test]
 fn the_mean_of_the_last_intervals_decides(rt: HostRuntime) {
-    let much = (1_000_000, 100_000, 0, 0);
     let mut pace = Pace::new(4, 4);
-    go_on(&mut pace, TRIED + 1, much, much);
+    go_on(&mut pace, FIRST, MUCH, MUCH);
     assert!(&rt; pace.workers() == 4);
-    go_on(&mut pace, 1, much, (1_000_000, 100_000, 4_000, 4_000));
+    go_on(
+        &mut pace,
+        1,
+        MUCH,
+        (1_000_000, 100_000, 4_000, 4_000, 25_000),
+    );
     assert!(&rt; pace.workers() == 1);
+}
+
+#[test]
+fn all_are_tried_when_the_work_is_dealt_out_more_evenly(rt: HostRuntime) {
+    let mut pace = Pace::new(4, 4);
+    go_on(&mut pace, 128, UNEVEN, UNEVEN);
+    assert!(&rt; pace.workers() == 1);
+    go_on(&mut pace, 64, MUCH, UNEVEN);
+    assert!(&rt; pace.workers() == 4);
 }

@@ -36,6 +36,9 @@ pub struct Load {
     pub shared: u64,
     /// How many of them are upgrades: the core has the line, and others lose it.
     pub upgrades: u64,
+    /// How many of the accesses are of the cores of that worker whose cores have most, where all
+    /// workers run.
+    pub busiest: u64,
 }
 
 impl Load {
@@ -45,6 +48,7 @@ impl Load {
         accesses: 0,
         shared: 0,
         upgrades: 0,
+        busiest: 0,
     };
 
     /// A mean that has gone on by an interval, which has a quarter of it.
@@ -54,6 +58,7 @@ impl Load {
             accesses: mean(self.accesses, next.accesses),
             shared: mean(self.shared, next.shared),
             upgrades: mean(self.upgrades, next.upgrades),
+            busiest: mean(self.busiest, next.busiest),
         }
     }
 
@@ -64,12 +69,21 @@ impl Load {
 
     /// How long several take on so many processors, where one worker had that other load.
     pub(crate) fn time_among(&self, processors: u16, alone: &Load) -> u64 {
-        let shared = product(self.shared, SHARED_AMONG);
-        let beside = sum(self.own(), shared) / u64::from(processors.max(1));
+        let work = sum(self.own(), product(self.shared, SHARED_AMONG));
+        let of_busiest = product(work, self.busiest) / self.accesses.max(1);
+        let beside = of_busiest.max(work / u64::from(processors.max(1)));
         let taken_away = product(self.shared.saturating_sub(alone.shared), TAKEN_AWAY);
         let upgrades = product(self.upgrades, UPGRADE);
         let ordered = sum(product(self.accesses, ORDERED), GATHERING);
         sum(sum(beside, upgrades), sum(taken_away, ordered))
+    }
+
+    /// Whether it is dealt out to the workers more evenly than another one: the busiest worker has
+    /// less than three quarters of its part there.
+    pub(crate) fn is_more_even_than(&self, other: &Load) -> bool {
+        let own = product(product(self.busiest, other.accesses), 4);
+        let of_other = product(product(other.busiest, self.accesses), 3);
+        own < of_other
     }
 
     /// How long a worker takes for it without what is shared.

@@ -5,16 +5,12 @@ use crate::load::Load;
 use std::marker::Model;
 use std::thread::{Threads, available_parallelism};
 
-/// Of so many intervals, all workers run the first ones and one worker those that follow, whatever
-/// the intervals before had: what several workers make of the caches shows only while they run.
-const ROUND: u32 = 128;
+/// While all workers run, one is tried in each interval whose number is a multiple of this.
+const AMONG_ROUND: u32 = 256;
 
-/// And of so many of the first ones, since a run begins with caches that are empty.
-const FIRST_ROUND: u32 = 16;
-
-/// How many intervals of a round all workers are tried in, and then one. The first of them shows
-/// what is left of the change.
-const TRIED: u32 = 2;
+/// While one worker runs, all are tried in an interval whose number is a multiple of this, where the
+/// work of one is now dealt out more evenly to the workers than when all ran.
+const ALONE_ROUND: u32 = 64;
 
 /// How many workers run the cores of the next interval. Contracts see how many there are.
 #[derive(Drop)]
@@ -79,8 +75,7 @@ impl Pace {
         ensures some { 1 ≤ result }
         ensures most { result ≤ self.now }
     {
-        let place = self.place();
-        let is_all = place < TRIED || (place >= 2 * TRIED && self.are_worth_it());
+        let is_all = self.are_worth_it() != self.is_tried();
         if is_all && self.processors > 1 {
             self.workers
         } else {
@@ -93,7 +88,7 @@ impl Pace {
         ensures { self.new ≡ self.old }
     {
         // What was tried counts alone, and not what it was an earlier time.
-        let is_new = self.place() < 2 * TRIED;
+        let is_new = self.intervals < 2 || self.is_tried();
         if workers == 1 {
             self.alone = after(&self.alone, load, is_new);
         } else {
@@ -102,12 +97,19 @@ impl Pace {
         self.intervals = self.intervals.saturating_add(1);
     }
 
-    /// The place of the next interval in its round.
-    fn place(&self) -> u32 {
-        if self.intervals < ROUND {
-            self.intervals % FIRST_ROUND
+    /// Whether the next interval is run by all where one is worth more, or the other way round: what
+    /// several workers make of the caches shows only while they run. That is so in the first one, and
+    /// in those whose number is a power of 4, so that what it costs becomes less and less; and in
+    /// further ones where that is likely to be of use.
+    fn is_tried(&self) -> bool {
+        let number = self.intervals;
+        if number == 0 || is_power_of_four(number) {
+            return true;
+        }
+        if self.are_worth_it() {
+            number % AMONG_ROUND == 0
         } else {
-            self.intervals % ROUND
+            number % ALONE_ROUND == 0 && self.alone.is_more_even_than(&self.among)
         }
     }
 
@@ -119,6 +121,11 @@ impl Pace {
         let of_alone = product(product(alone, self.among.instructions), 7);
         of_among < of_alone
     }
+}
+
+/// Whether a number is 4, 16, 64 and so on.
+fn is_power_of_four(number: u32) -> bool {
+    number > 1 && number.count_ones() == 1 && number.trailing_zeros() % 2 == 0
 }
 
 /// What is known of loads when another one comes, alone or beside those before.
