@@ -95,8 +95,9 @@ fn fire_by_domains<R: Threads + Sync, G: Gate>(
     let own = mem::replace(comps, Comps::of(Vec::new(alloc)));
     match weave(rt, alloc, graph, &parts, own, workers, gate) {
         Ok(woven) => {
+            // An interval without events has no round, and says nothing for domains.
             *domains_are_worth = graph.events().len() as u64
-                >= WORTH_OF_DOMAINS * u64::from(woven.rounds);
+                >= WORTH_OF_DOMAINS * u64::from(woven.rounds.max(1));
             *comps = woven.comps;
             Ok(woven.fired)
         }

@@ -35,8 +35,8 @@ use zs_num::{Entries, NoMemory};
 /// who pass the gate before each. Moves the components on, counts the interval, and adds it to the
 /// recording. Answers the delays of the cores. `order` has the cores of the accesses in recorded
 /// order, `places` the domain of each component, and `domains_are_worth` says what it says to
-/// `fire_all`. One worker fires them core by core, as far as the order of the accesses does not
-/// matter, where no events are kept.
+/// `fire_all`. They are fired core by core, as far as the order of the accesses does not matter, by
+/// one worker and where domains are not worth it, while no events are kept.
 pub fn weave_recorded<R: Threads + Sync, G: Gate>(
     rt: &R,
     alloc: Global,
@@ -76,6 +76,7 @@ pub fn weave_recorded<R: Threads + Sync, G: Gate>(
         comps,
         counters,
         workers,
+        *domains_are_worth,
         gate,
         places,
         recording,
@@ -94,7 +95,14 @@ pub fn weave_recorded<R: Threads + Sync, G: Gate>(
             comps,
             counters,
             workers,
-            &later_passes(gate, workers, recording, places, chain_buffers),
+            &later_passes(
+                gate,
+                workers,
+                *domains_are_worth,
+                recording,
+                places,
+                chain_buffers,
+            ),
             places,
             domains_are_worth,
             recording,
@@ -106,11 +114,12 @@ pub fn weave_recorded<R: Threads + Sync, G: Gate>(
 fn later_passes<'a, G: Gate>(
     gate: &'a G,
     workers: u16,
+    domains_are_worth: bool,
     recording: &Recording,
     places: &[u16],
     chain_buffers: &ChainBuffers,
 ) -> LaterPasses<'a, G> {
-    let begun = can_fire_by_cores(workers, recording);
+    let begun = can_fire_by_cores(workers, domains_are_worth, gate, recording);
     LaterPasses::behind(gate, begun, places, chain_buffers)
 }
 
@@ -124,6 +133,7 @@ fn weave_by_cores<G: Gate>(
     comps: &mut Comps<Comp>,
     counters: &mut Counters,
     workers: u16,
+    domains_are_worth: bool,
     gate: &G,
     places: &[u16],
     recording: &Recording,
@@ -141,7 +151,7 @@ fn weave_by_cores<G: Gate>(
     ensures counters { IfOk result (λ found. IfNone found (counters.new ≡ counters.old)) }
 {
     intervals_are_woven();
-    if !can_fire_by_cores(workers, recording) {
+    if !can_fire_by_cores(workers, domains_are_worth, gate, recording) {
         return Ok(None);
     }
     let found = weave_lists(alloc, net, recorder, comps, places, gate, chain_buffers)?;
@@ -159,11 +169,19 @@ fn weave_by_cores<G: Gate>(
     Ok(Some(woven.delays))
 }
 
-/// Whether so many workers fire the events of an interval core by core.
-fn can_fire_by_cores(workers: u16, recording: &Recording) -> bool
+/// Whether so many workers fire the events of an interval core by core: one does, and several where
+/// domains are not worth it, unless somebody looks at the gate, by which each event of theirs passes
+/// as one of its domain's worker.
+fn can_fire_by_cores<G: Gate>(
+    workers: u16,
+    domains_are_worth: bool,
+    gate: &G,
+    recording: &Recording,
+) -> bool
     ensures off { result ≡ true → is_on recording.now ≡ false }
 {
-    workers == 1 && !recording.is_on()
+    let by_one = workers == 1 || (!domains_are_worth && gate.is_open());
+    by_one && !recording.is_on()
 }
 
 /// The same in the recorded order of the accesses.
@@ -247,6 +265,7 @@ pub fn weave_replayed(
         comps,
         counters,
         1,
+        true,
         &OpenGate,
         places,
         &off,

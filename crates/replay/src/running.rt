@@ -34,11 +34,11 @@ use zs_num::NoMemory;
 
 /// In which intervals several workers fire the events by their domains, whether or not it was worth
 /// it before: in the first, and in one of so many.
-const TRIED: u32 = 64;
+const TRIED: u32 = 1024;
 
 /// Runs an image by so many workers, one at least and 64 at most: in each interval each core to the
-/// interval's end, and then the events, which one worker fires core by core or on one list and
-/// several by their domains, or on one list too where the domains were not worth it. Of W workers
+/// interval's end, and then the events, which one worker fires core by core or on one list, and
+/// several by their domains, or as one does where the domains were not worth it. Of W workers
 /// worker w runs the cores, and then the domains, whose number is w modulo W, in ascending order;
 /// there are no more workers than cores, or than domains, and one alone runs the cores where
 /// several are not worth it and no gate is to be passed. Before each access and each event a worker
