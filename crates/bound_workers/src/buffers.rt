@@ -58,12 +58,16 @@ fn empty_blocks(alloc: Global, cores: u16, room: u32) -> Result<Vec<Blocks>, NoM
 #[derive(Drop)]
 pub struct WorkBuffers {
     tools: Option<Tools>,
+    turns: Option<Vec<u16>>,
 }
 
 impl WorkBuffers {
     /// No memory, as before the first bound phase.
     pub fn none() -> Self {
-        WorkBuffers { tools: None }
+        WorkBuffers {
+            tools: None,
+            turns: None,
+        }
     }
 
     /// Those that an earlier bound phase left, if they are for as many workers and cores, and as
@@ -80,6 +84,23 @@ impl WorkBuffers {
         match self.tools.take() {
             Some(tools) if tools.are_for(workers, cores, room) => Ok(tools),
             _ => Tools::new(alloc, workers, cores, room),
+        }
+    }
+
+    /// Leaves the memory of a list of turns to the next bound phase, if there is one.
+    pub fn keep_turns(&mut self, turns: Option<Vec<u16>>) {
+        if turns.is_some() {
+            self.turns = turns;
+        }
+    }
+
+    /// Room for a list of so many turns: what an earlier bound phase left, or new memory.
+    pub(crate) fn take_turns(&mut self, alloc: Global, count: usize) -> Result<Vec<u16>, NoMemory>
+        ensures { IfOk result (λ turns. count ≤ vec_capacity turns) }
+    {
+        match self.turns.take() {
+            Some(turns) if turns.capacity() >= count => Ok(turns),
+            _ => Ok(Vec::with_capacity(alloc, count)?),
         }
     }
 

@@ -121,7 +121,7 @@ pub fn bound_by<'a, R: Wait + Sync, G: Gate>(
         records,
     } = back;
     let (shards, mut blocks) = only(rt, table).close(seats);
-    let turns = turns_of(alloc, &records, &mut blocks, &mut merge)?;
+    let turns = turns_of(alloc, buffers, &records, &mut blocks, &mut merge)?;
     let recorder = Recorder::of(
         alloc,
         RecorderParts {
@@ -250,6 +250,7 @@ fn only<R: Wait>(rt: &R, table: Arc<PartsTable>) -> PartsTable
 /// The cores of all accesses, in the order of their keys.
 fn turns_of(
     alloc: Global,
+    buffers: &mut WorkBuffers,
     records: &[CoreRecord],
     blocks: &mut [Blocks],
     merge: &mut Merge,
@@ -264,7 +265,7 @@ fn turns_of(
     for kept in records {
         count += kept.log.len() as usize;
     }
-    let mut turns = Vec::with_capacity(alloc, count)?;
+    let mut turns = buffers.take_turns(alloc, count)?;
     merge.put_in_order(blocks, &mut turns);
     Ok(turns)
 }

@@ -94,6 +94,7 @@ pub fn run_interval<'a, R: Threads + Wait + Sync, G: Gate>(
         chain_buffers,
         order_buffers,
     )?;
+    buffers.keep_turns(list);
     Ok((simulation, cores))
 }
 

@@ -17,4 +17,4 @@ put_in_order-requires-clause-room c =
     let same : sum_by (λ (k : CoreRecord). length k.log.entries) records ≡ sum_by (λ (b : BlocksState). length b.keys) c.args.blocks.now =
     sym (sum-map (λ (k : CoreRecord). length k.log.entries) records) ∙ (ap sum c.requires.sizes ∙ sum-map (λ (b : BlocksState). length b.keys) c.args.blocks.now)
     in
-    omega (arith, counted, same, c.in_ok-turns.ensures.capacity)
+    omega (arith, counted, same, c.in_ok-turns.ensures)
