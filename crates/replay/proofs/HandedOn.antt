@@ -6,10 +6,9 @@ use Rattle.machine_desc.specs.declared.machine.Machine.{Machine}
 use Rattle.bound_records.specs.Intervals.{IfIllegalTurn}
 use Rattle.bound_records.specs.declared.turns_fail.TurnsFail.{TurnsFail}
 use Rattle.bound_records.specs.declared.turns_fail.TurnsFail.TheVariants as turns_fail
-use Rattle.replay.specs.Replay.{IfIllegal, Replays}
-use Rattle.replay.specs.Simulation.{fail_of}
-use Rattle.replay.specs.ReferenceRun.{Illegal, IsIllegalAt}
-use Rattle.replay.specs.Results.{Results}
+use Rattle.replay.specs.Replay.{IfIllegal, Replays, fail_of}
+use Rattle.reference.specs.ReferenceRun.{Illegal, IsIllegalAt}
+use Rattle.reference.specs.Results.{Results}
 use Rattle.replay.specs.declared.replay_fail.ReplayFail.{ReplayFail}
 use Rattle.replay.specs.declared.replay_fail.ReplayFail.TheVariants as fail
 

@@ -1,11 +1,6 @@
-pub mod Results
-pub mod Limits
-pub mod ReferenceRun
 pub mod Replay
-pub mod IntervalWeave
-pub mod RunEvents
-pub mod Recording
-pub mod Records
-pub mod Simulation
 pub mod Laws
-pub mod Going
+pub use Rattle.reference.specs.Results
+pub use Rattle.reference.specs.ReferenceRun
+pub use Rattle.reference.specs.RunEvents
+pub use Rattle.run.specs.Recording

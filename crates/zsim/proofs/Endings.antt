@@ -10,9 +10,9 @@ use Rattle.machine_desc.specs.Description.{machine_of}
 use Rattle.elf_load.specs.declared.bad_elf.BadElf.{BadElf}
 use Rattle.elf_load.specs.Image.{image_of}
 use Rattle.elf_load.specs.MemoryImage.{MemoryImage}
-use Rattle.replay.specs.ReferenceRun.{Illegal, IsIllegalAt, IsKeptInOrder}
-use Rattle.replay.specs.Results.{Results}
-use Rattle.replay.specs.RunEvents.{events_limit}
+use Rattle.reference.specs.ReferenceRun.{Illegal, IsIllegalAt, IsKeptInOrder}
+use Rattle.reference.specs.Results.{Results}
+use Rattle.reference.specs.RunEvents.{events_limit}
 use Rattle.schedule_file.specs.declared.bad_schedule.BadSchedule.{BadSchedule}
 use Rattle.schedule_file.specs.ScheduleFile.{schedule_file_of, schedule_of}
 use Rattle.zsim.specs.declared.ended.Kept.{Kept}

@@ -4,11 +4,11 @@ use Rattle.std.specs.Prelude.{IfSome, IsSomeAnd, MatchOption, is_some, length}
 use Rattle.elf_load.specs.MemoryImage.{MemoryImage}
 use Rattle.access_log.specs.Schedule.{ScheduleState}
 use Rattle.machine_desc.specs.declared.machine.Machine.{Machine}
-use Rattle.replay.specs.declared.recording.Recording.{Recording}
-use Rattle.replay.specs.Recording.{IsRecordedRun, is_on}
-use Rattle.replay.specs.ReferenceRun.{IsRunOf}
-use Rattle.replay.specs.Results.{HasCounts, Results}
-use Rattle.replay.specs.RunEvents.{IsEventsFileOf, events_file_of_run, events_limit}
+use Rattle.run.specs.declared.recording.Recording.{Recording}
+use Rattle.run.specs.Recording.{IsRecordedRun, is_on}
+use Rattle.reference.specs.ReferenceRun.{IsRunOf}
+use Rattle.reference.specs.Results.{HasCounts, Results}
+use Rattle.reference.specs.RunEvents.{IsEventsFileOf, events_file_of_run, events_limit}
 use Rattle.zsim.specs.Outputs.{named_if}
 use Rattle.zsim.specs.Steps.{RunGives}
 

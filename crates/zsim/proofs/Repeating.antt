@@ -9,10 +9,11 @@ use Rattle.machine_desc.specs.declared.machine.Machine.{Machine}
 use Rattle.machine_desc.specs.Machine.{IsMachine}
 use Rattle.elf_load.specs.MemoryImage.{MemoryImage}
 use Rattle.replay.specs.declared.replay_fail.ReplayFail.TheVariants as fail
-use Rattle.replay.specs.Laws.{FitsRun, LegalSchedulesFit, ReplaysGiveTheSame}
-use Rattle.replay.specs.ReferenceRun.{Illegal, IsIllegalAt, IsKeptInOrder, IsRunOf}
-use Rattle.replay.specs.Results.{HasCounts, Results}
-use Rattle.replay.specs.RunEvents.{events_limit}
+use Rattle.reference.specs.Laws.{FitsRun, LegalSchedulesFit}
+use Rattle.replay.specs.Laws.{ReplaysGiveTheSame}
+use Rattle.reference.specs.ReferenceRun.{Illegal, IsIllegalAt, IsKeptInOrder, IsRunOf}
+use Rattle.reference.specs.Results.{HasCounts, Results}
+use Rattle.reference.specs.RunEvents.{events_limit}
 use Rattle.schedule_file.specs.Laws.{EachScheduleIsReadAgain, FilesAreShort}
 use Rattle.schedule_file.specs.ScheduleFile.{schedule_file_of, schedule_of}
 use Rattle.zsim.specs.declared.ended.Kept.{Kept}

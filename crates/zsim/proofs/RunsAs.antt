@@ -3,8 +3,8 @@ use Rattle.std.proofs.Common.{◌≡◌, ◌⊎◌, ◌≤◌, Bool, List, [], �
 use Rattle.access_log.specs.Schedule.{ScheduleState}
 use Rattle.elf_load.specs.MemoryImage.{MemoryImage}
 use Rattle.machine_desc.specs.declared.machine.Machine.{Machine}
-use Rattle.replay.specs.Results.{Results}
-use Rattle.replay.specs.RunEvents.{events_limit}
+use Rattle.reference.specs.Results.{Results}
+use Rattle.reference.specs.RunEvents.{events_limit}
 use Rattle.schedule_file.specs.ScheduleFile.{schedule_file_of}
 use Rattle.zsim.specs.declared.ended.Status.{Status}
 use Rattle.zsim.specs.declared.ended.Status.TheVariants as status

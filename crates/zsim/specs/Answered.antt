@@ -1,6 +1,6 @@
 -- What a call answers whose words are a command.
 use Rattle.std.specs.Prelude.{◌≡◌, []}
-use Rattle.replay.specs.Results.{Results}
+use Rattle.reference.specs.Results.{Results}
 use Rattle.zsim.specs.declared.ended.Kept.{Kept}
 use Rattle.zsim.specs.declared.ended.Status.{Status}
 use Rattle.zsim.specs.Checked.{ChecksAs, IsYes}

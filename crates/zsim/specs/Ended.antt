@@ -7,9 +7,9 @@ use Rattle.machine_desc.specs.declared.plain.TheConstants.{PLAIN}
 use Rattle.machine_desc.specs.Machine.{IsMachine}
 use Rattle.elf_write.specs.File.{executable_of}
 use Rattle.gen_prog.specs.Generated.{generated_image}
-use Rattle.replay.specs.ReferenceRun.{Illegal, IsIllegalAt, IsKeptInOrder, IsRunOf}
-use Rattle.replay.specs.Results.{HasCounts, Results}
-use Rattle.replay.specs.RunEvents.{IsEventsFileOf, events_limit}
+use Rattle.reference.specs.ReferenceRun.{Illegal, IsIllegalAt, IsKeptInOrder, IsRunOf}
+use Rattle.reference.specs.Results.{HasCounts, Results}
+use Rattle.reference.specs.RunEvents.{IsEventsFileOf, events_limit}
 use Rattle.zsim.specs.declared.ended.Kept.{Kept}
 use Rattle.zsim.specs.declared.ended.Said.{Said}
 use Rattle.zsim.specs.declared.ended.Said.TheVariants as said

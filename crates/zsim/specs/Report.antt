@@ -1,7 +1,7 @@
 -- The report of a run.
 use Rattle.std.specs.Prelude.{ℕ, Bool, List}
 use Rattle.machine_desc.specs.declared.machine.Machine.{Machine}
-use Rattle.replay.specs.Results.{Results}
+use Rattle.reference.specs.Results.{Results}
 use Rattle.report.specs.ReportText.{report_text}
 
 -- the report of what a run on a machine gave, whole or brief

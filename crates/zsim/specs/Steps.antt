@@ -4,9 +4,9 @@ use Rattle.std.specs.Prelude.{◌≡◌, ◌⊎◌, ℕ, ◌<◌, ◌≤◌, Boo
 use Rattle.access_log.specs.Schedule.{ScheduleState}
 use Rattle.elf_load.specs.MemoryImage.{MemoryImage}
 use Rattle.machine_desc.specs.declared.machine.Machine.{Machine}
-use Rattle.replay.specs.ReferenceRun.{Illegal, IsIllegalAt, IsRunOf}
-use Rattle.replay.specs.Results.{HasCounts, Results}
-use Rattle.replay.specs.RunEvents.{IsEventsFileOf, events_limit}
+use Rattle.reference.specs.ReferenceRun.{Illegal, IsIllegalAt, IsRunOf}
+use Rattle.reference.specs.Results.{HasCounts, Results}
+use Rattle.reference.specs.RunEvents.{IsEventsFileOf, events_limit}
 use Rattle.schedule_file.specs.ScheduleFile.{schedule_file_of}
 use Rattle.zs_host.specs.declared.files.FileFail.{FileFail}
 use Rattle.zs_host.specs.declared.files.FileFail.TheVariants as fail

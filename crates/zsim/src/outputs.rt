@@ -1,6 +1,6 @@
 //! The outputs of a run: the report, and behind it the files that the command names.
 ghost use Rattle.std.specs.Prelude.{◌≡◌, ◌⊎◌, ◌++◌, IfOk, IfSome, option_map};
-ghost use Rattle.replay.specs.Results.{HasCounts};
+ghost use Rattle.reference.specs.Results.{HasCounts};
 ghost use Rattle.schedule_file.specs.ScheduleFile.{schedule_file_of};
 ghost use Rattle.zsim.specs.Ended.{status_at};
 ghost use Rattle.zsim.specs.Report.{report_of};

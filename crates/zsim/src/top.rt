@@ -1,9 +1,9 @@
 //! The call that does all that the program does.
 ghost use Rattle.std.specs.Prelude.{◌≡◌, ◌⊎◌, [], IfOk, IfSome, IsSomeAnd, None, Ok, is_some, map, option_map, string_bytes};
 ghost use Rattle.machine_desc.specs.Machine.{IsMachine};
-ghost use Rattle.replay.specs.Recording.{IsRecordingOf, is_on};
-ghost use Rattle.replay.specs.ReferenceRun.{IsKeptInOrder};
-ghost use Rattle.replay.specs.Results.{Results};
+ghost use Rattle.run.specs.Recording.{IsRecordingOf, is_on};
+ghost use Rattle.reference.specs.ReferenceRun.{IsKeptInOrder};
+ghost use Rattle.reference.specs.Results.{Results};
 ghost use Rattle.zsim.specs.Answered.{Answers, HasCome};
 ghost use Rattle.zsim.specs.CommandLine.{command_of};
 ghost use Rattle.zsim.specs.Ended.{Gives, EndsAs, IsNoCommand, KeepsNothing, Says, no_intervals};

@@ -1,6 +1,6 @@
 use Rattle.std.proofs.Common.{◌≡◌, List, Ok, Err, inl, inr, refl, sym, ◌∙◌, ap}
 use Rattle.component.specs.declared.comp.Comp.{Comp}
-use Rattle.replay.specs.ReferenceRun.{reference_run}
+use Rattle.reference.specs.ReferenceRun.{reference_run}
 use Rattle.replay.specs.declared.replay_fail.ReplayFail.TheVariants as fail
 use Rattle.replay.proofs.laws.replays_give_the_same.Goals as goal
 

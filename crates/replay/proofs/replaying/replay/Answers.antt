@@ -1,7 +1,7 @@
 use Rattle.std.proofs.Common.{sym, subst}
 use Rattle.elf_load.specs.MemoryImage.{MemoryImage}
 use Rattle.replay.specs.Replay.{Replays}
-use Rattle.replay.specs.Simulation.{IsAtStart}
+use Rattle.run.specs.Simulation.{IsAtStart}
 use Rattle.replay.specs.declared.replay_fail.ReplayFail.TheVariants as fail
 use Rattle.replay.proofs.HandedOn.{replay_failed}
 use Rattle.replay.proofs.replaying.replay.Goals as goal

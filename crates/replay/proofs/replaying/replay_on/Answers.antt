@@ -2,11 +2,11 @@ use Rattle.std.proofs.Common.{◌≡◌, ◌<◌, ◌+◌, ◌-◌, ℕ, List, [
 use Rattle.std.specs.Prelude.{slice_get}
 use Rattle.std.proofs.lemmas.List.{drop_more, length-take-le, take-append-drop, take_all, take_more}
 use Rattle.std.proofs.lemmas.Option.{get_or_from_slice_get, slice_get_within}
-use Rattle.replay.specs.ReferenceRun.{Illegal, IsIllegalAt, RunState, after_interval, first_state, has_ended, next_place, reference_run}
-use Rattle.replay.specs.Simulation.{HasNextInterval, LeadsTo}
-use Rattle.replay.proofs.NextInterval.{has_room}
-use Rattle.replay.proofs.RunEnds.{counted_results, numbered_results}
-use Rattle.replay.proofs.RunSoFar.{HasRun, accesses_are, below_limit, ends_too_soon, ends_with, further, goes, goes_too_far, same_ending, stops_at}
+use Rattle.reference.specs.ReferenceRun.{Illegal, IsIllegalAt, RunState, after_interval, first_state, has_ended, next_place, reference_run}
+use Rattle.run.specs.Simulation.{HasNextInterval, LeadsTo}
+use Rattle.run.proofs.NextInterval.{has_room}
+use Rattle.run.proofs.RunEnds.{counted_results, numbered_results}
+use Rattle.run.proofs.RunSoFar.{HasRun, accesses_are, below_limit, ends_too_soon, ends_with, further, goes, goes_too_far, same_ending, stops_at}
 use Rattle.replay.proofs.HandedOn.{of_place, replay_failed}
 use Rattle.replay.proofs.replaying.replay_on.Goals as goal
 

@@ -1,7 +1,7 @@
 -- the run has come to where the first intervals of the schedule lead
 use Rattle.std.proofs.Common.{◌≡◌, ◌≤◌, ◌-◌, ◌*◌, ◌^◌, length, take}
 use Rattle.bound_records.specs.CoreRuns.{IsNetOf}
-use Rattle.replay.proofs.RunSoFar.{HasRun}
+use Rattle.run.proofs.RunSoFar.{HasRun}
 use Rattle.replay.proofs.replaying.replay_on.Given as goal
 
 abbrev pub invariant-loop-alloc : goal.invariant-loop-alloc

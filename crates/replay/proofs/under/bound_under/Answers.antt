@@ -7,9 +7,9 @@ use Rattle.bound_core.specs.ReferenceMachine.{bound_phase}
 use Rattle.bound_core.specs.NumberedCores.{NumberedCore, timed_of}
 use Rattle.bound_core.specs.ShardWorld.{restarted, shards_serve}
 use Rattle.bound_records.specs.Intervals.{IfIllegalTurn}
-use Rattle.replay.specs.declared.simulation.Simulation.{Simulation}
-use Rattle.replay.specs.ReferenceRun.{time_of}
-use Rattle.replay.proofs.RecordedPhase.{by_turns}
+use Rattle.run.specs.declared.simulation.Simulation.{Simulation}
+use Rattle.reference.specs.ReferenceRun.{time_of}
+use Rattle.run.proofs.RecordedPhase.{by_turns}
 use Rattle.replay.proofs.under.bound_under.Goals as goal
 
 pub run_under-requires-clause-count : goal.run_under-requires-clause-count

@@ -2,12 +2,12 @@ use Rattle.std.proofs.Common.{◌≡◌, ℕ, Err, length, map, refl, sym, subst
 use Rattle.bound_core.specs.History.{begun_over_shards}
 use Rattle.bound_core.specs.ReferenceMachine.{bound_phase}
 use Rattle.bound_core.specs.ShardWorld.{restarted, shards_serve}
-use Rattle.replay.specs.ReferenceRun.{Illegal, RunState, after_interval, time_of}
+use Rattle.reference.specs.ReferenceRun.{Illegal, RunState, after_interval, time_of}
 use Rattle.replay.specs.Replay.{IfIllegal}
-use Rattle.replay.specs.Simulation.{HasNextInterval, cores_of}
+use Rattle.run.specs.Simulation.{HasNextInterval, cores_of}
 use Rattle.replay.specs.declared.replay_fail.ReplayFail.{ReplayFail}
 use Rattle.replay.proofs.HandedOn.{of_turn}
-use Rattle.replay.proofs.NextInterval.{not_legal}
+use Rattle.run.proofs.NextInterval.{not_legal}
 use Rattle.replay.proofs.under.interval_under.Goals as goal
 
 pub weave_under-requires-clause-recorded : goal.weave_under-requires-clause-recorded

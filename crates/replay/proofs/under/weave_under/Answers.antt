@@ -4,13 +4,13 @@ use Rattle.std.proofs.lemmas.List.{with_items_is}
 use Rattle.stats.specs.Counts.{Interval}
 use Rattle.bound_core.specs.NumberedCores.{NumberedCore, timed_of}
 use Rattle.bound_records.specs.CoreRuns.{AreNumbered}
-use Rattle.replay.specs.declared.simulation.Simulation.{Simulation}
-use Rattle.replay.specs.Records.{accesses_in, recorded_interval}
-use Rattle.replay.specs.ReferenceRun.{all_delayed, time_of}
-use Rattle.replay.specs.Simulation.{IsBoundPhase, cores_of}
-use Rattle.replay.proofs.Cores.{each_clock}
-use Rattle.replay.proofs.NextInterval.{Laws}
-use Rattle.replay.proofs.RecordedFacts as F
+use Rattle.run.specs.declared.simulation.Simulation.{Simulation}
+use Rattle.run.specs.Records.{accesses_in, recorded_interval}
+use Rattle.reference.specs.ReferenceRun.{all_delayed, time_of}
+use Rattle.run.specs.Simulation.{IsBoundPhase, cores_of}
+use Rattle.run.proofs.Cores.{each_clock}
+use Rattle.run.proofs.NextInterval.{Laws}
+use Rattle.run.proofs.RecordedFacts as F
 use Rattle.replay.proofs.under.weave_under.Goals as goal
 
 pub weave_replayed-requires-clause-turns : goal.weave_replayed-requires-clause-turns

@@ -4,7 +4,7 @@ use Rattle.schedule_file.specs.ScheduleFile.{schedule_file_of}
 use Rattle.zsim.specs.Outputs.{named_if}
 use Rattle.zsim.specs.Seen.{files_seen, sink_seen}
 use Rattle.zsim.specs.Steps.{output_list}
-use Rattle.replay.proofs.RunSoFar.{nothing_run}
+use Rattle.reference.proofs.FirstIntervals.{nothing_run}
 use Rattle.zsim.proofs.RecordedRun.{gives, gives_kept, gives_too_many}
 use Rattle.zsim.proofs.RunsAs.{named_so, runs_as}
 use Rattle.zsim.proofs.top.run_and_report.Goals as goal

@@ -1,0 +1,5 @@
+pub mod Results
+pub mod Limits
+pub mod ReferenceRun
+pub mod RunEvents
+pub mod Laws

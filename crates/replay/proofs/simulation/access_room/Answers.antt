@@ -1,5 +1,0 @@
-use Rattle.std.proofs.Common.{arith, tests}
-use Rattle.replay.proofs.simulation.access_room.Goals as goal
-
-pub returns-clause-value : goal.returns-clause-value
-returns-clause-value c = grind (arith, tests)

@@ -1,0 +1,5 @@
+pub mod IntervalWeave
+pub mod Recording
+pub mod Records
+pub mod Simulation
+pub mod Going
