@@ -1,1 +1,2 @@
+pub mod PartsTested
 pub mod Tested

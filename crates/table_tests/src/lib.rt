@@ -1,6 +1,7 @@
 //! Tests of accesses by several threads: two cores share the shards of a table, in one thread and
 //! in two, and the first interval of small programs by several workers, also past gates. And of
-//! crews, which do jobs beside who asks for them.
+//! crews, which do jobs beside who asks for them, and of two cores that share homes and L1s one by
+//! one.
 #![tactic(auto)]
 
 #[cfg(test)]
@@ -15,6 +16,8 @@ mod gates;
 mod given;
 #[cfg(test)]
 mod paces;
+#[cfg(test)]
+mod parts;
 #[cfg(test)]
 mod requests;
 #[cfg(test)]

@@ -30,50 +30,50 @@ fn go_on(pace: &mut Pace, intervals: u32, alone: Loads, among: Loads) {
 }
 
 /// Much work, of which nothing is shared: 1900 microseconds, or a quarter and 410 more.
-static MUCH: Loads = (1_000_000, 100_000, 0, 0, 25_000);
+const MUCH: Loads = (1_000_000, 100_000, 0, 0, 25_000);
 
 /// The same, all of one worker's cores.
-static UNEVEN: Loads = (1_000_000, 100_000, 0, 0, 100_000);
+const UNEVEN: Loads = (1_000_000, 100_000, 0, 0, 100_000);
 
 /// Most is shared: 1850 microseconds, or 1152.
-static SHARED: Loads = (100_000, 20_000, 20_000, 0, 5_000);
+const SHARED: Loads = (100_000, 20_000, 20_000, 0, 5_000);
 
 /// The same, and all are upgrades: 10 milliseconds more.
-static UPGRADES: Loads = (100_000, 20_000, 20_000, 20_000, 5_000);
+const UPGRADES: Loads = (100_000, 20_000, 20_000, 20_000, 5_000);
 
 /// 195 microseconds, or 101.
-static SOME: Loads = (100_000, 10_000, 60, 0, 2_500);
+const SOME: Loads = (100_000, 10_000, 60, 0, 2_500);
 
 /// What is shared only while all run.
-static MORE_SHARED: Loads = (100_000, 10_000, 160, 0, 2_500);
+const MORE_SHARED: Loads = (100_000, 10_000, 160, 0, 2_500);
 
 /// Little work: 19 microseconds.
-static LITTLE: Loads = (10_000, 1_000, 0, 0, 250);
+const LITTLE: Loads = (10_000, 1_000, 0, 0, 250);
 
 /// More than can be counted.
-static MOST: Loads = (u64::MAX, u64::MAX, u64::MAX, u64::MAX, u64::MAX);
+const MOST: Loads = (u64::MAX, u64::MAX, u64::MAX, u64::MAX, u64::MAX);
 
 /// On so many processors, what intervals have that one worker runs, and those that all run: how many
 /// run the next. The last number of processors is one that no system has.
-static CHOICES: [(u16, &Loads, &Loads, u16); 11] = [
-    (4, &MUCH, &MUCH, 4),
-    (4, &UNEVEN, &UNEVEN, 1),
-    (4, &LITTLE, &LITTLE, 1),
-    (4, &SHARED, &SHARED, 4),
-    (2, &SHARED, &SHARED, 1),
-    (4, &UPGRADES, &UPGRADES, 1),
-    (4, &SOME, &SOME, 4),
-    (4, &SOME, &MORE_SHARED, 1),
-    (4, &MOST, &MOST, 1),
-    (1, &MUCH, &MUCH, 1),
-    (0, &MUCH, &MUCH, 1),
+static CHOICES: [(u16, Loads, Loads, u16); 11] = [
+    (4, MUCH, MUCH, 4),
+    (4, UNEVEN, UNEVEN, 1),
+    (4, LITTLE, LITTLE, 1),
+    (4, SHARED, SHARED, 4),
+    (2, SHARED, SHARED, 1),
+    (4, UPGRADES, UPGRADES, 1),
+    (4, SOME, SOME, 4),
+    (4, SOME, MORE_SHARED, 1),
+    (4, MOST, MOST, 1),
+    (1, MUCH, MUCH, 1),
+    (0, MUCH, MUCH, 1),
 ];
 
 #[test]
 fn workers_are_as_many_as_the_intervals_were_worth(rt: HostRuntime) {
     for &(processors, alone, among, wanted) in &CHOICES {
         let mut pace = Pace::new(4, processors);
-        go_on(&mut pace, FIRST, *alone, *among);
+        go_on(&mut pace, FIRST, alone, among);
         assert!(&rt; pace.workers() == wanted);
     }
 }
@@ -83,7 +83,7 @@ fn run_by(rt: &impl Abort, pace: &mut Pace, intervals: u32, wanted: u16) {
     for _ in 0..intervals {
         let workers = pace.workers();
         assert!(rt; workers == wanted);
-        pace.learn(workers, load((0, 0, 0, 0)));
+        pace.learn(workers, load((0, 0, 0, 0, 0)));
     }
 }
 
