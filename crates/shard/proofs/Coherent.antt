@@ -21,7 +21,7 @@ use Rattle.shard.proofs.CoherentSettled.{Settles, held_or_lost, lost, lost_alone
 use Rattle.shard.proofs.CoherentRows.{IsReady, comes, found, hit, room_after, upgrade}
 
 -- ---- a line that the L2 does not have
-absent : (c : Caches) (line : ℕ) → AreCoherent c → is_some (dirty_at c line) ≡ false → (a : ℕ) → letter_at c a line ≡ I
+pub absent : (c : Caches) (line : ℕ) → AreCoherent c → is_some (dirty_at c line) ≡ false → (a : ℕ) → letter_at c a line ≡ I
 absent c line h out a =
     elim (held_or_lost (letter_at c a line)) as (λ _. letter_at c a line ≡ I)
     [ inl held ↦ let bad : true ≡ false = sym (h.inclusive a line held) ∙ out in absurd cc | inr e ↦ e ]
@@ -39,12 +39,12 @@ made_letter (Some w) c h a l =
       | inr e ↦ inl (same ∙ letter_recalled_other w.0 c a l e)
     ]
 
-made_victim : (victim : Option (ℕ × Bool)) (c : Caches) (line : ℕ) → l2_victim (copies_evicted victim c) line ≡ l2_victim c line
+pub made_victim : (victim : Option (ℕ × Bool)) (c : Caches) (line : ℕ) → l2_victim (copies_evicted victim c) line ≡ l2_victim c line
 unfolding recalled instructions_recalled
 made_victim None c line = refl
 made_victim (Some w) c line = refl
 
-holds_made : (v : ℕ) (c : Caches) (core l : ℕ) → fetch_holds (instructions_recalled v (recalled v c)) core l ≡ fetch_holds (instructions_recalled v c) core l
+pub holds_made : (v : ℕ) (c : Caches) (core l : ℕ) → fetch_holds (instructions_recalled v (recalled v c)) core l ≡ fetch_holds (instructions_recalled v c) core l
 unfolding fetch_holds recalled instructions_recalled
 holds_made v c core l = refl
 
@@ -84,7 +84,7 @@ module _ (c : Caches) (core line : ℕ) (h : AreCoherent c) (known : core < leng
             (h.l1i_inclusive a l (sym (holds_recalled w.0 c a l) ∙ sym (holds_instructions_other w.0 first a l stays) ∙ still))
       ]
 
-  missed : (letter : Letter) → is_some (dirty_at c line) ≡ false → IsReady c (filled_into_l2 line (copies_evicted (l2_victim c line) c)) core line letter
+  pub missed : (letter : Letter) → is_some (dirty_at c line) ≡ false → IsReady c (filled_into_l2 line (copies_evicted (l2_victim c line) c)) core line letter
   missed letter out =
       let victim : Option (ℕ × Bool) = l2_victim c line in
       let made : Caches = copies_evicted victim c in

@@ -135,7 +135,7 @@ holds_dirtied : (b : Bool) (line : ℕ) (c : Caches) (a l : ℕ) → fetch_holds
 holds_dirtied true line c a l = holds_marked line c a l
 holds_dirtied false line c a l = refl
 
-holds_on_others : (outcome : Outcome) (write : Bool) (core line : ℕ) (c : Caches) (a l : ℕ) → fetch_holds (on_others outcome write core line c) a l ≡ fetch_holds c a l
+pub holds_on_others : (outcome : Outcome) (write : Bool) (core line : ℕ) (c : Caches) (a l : ℕ) → fetch_holds (on_others outcome write core line c) a l ≡ fetch_holds c a l
 holds_on_others Hit write core line c a l = refl
 holds_on_others (Upgrade others) write core line c a l = holds_others (other_after write) core line c a l
 holds_on_others (L2 others) write core line c a l =
@@ -143,7 +143,7 @@ holds_on_others (L2 others) write core line c a l =
     holds_others (other_after write) core line (cond b (marked_dirty line c) c) a l ∙ holds_dirtied b line c a l
 holds_on_others (Miss dirty) write core line c a l = refl
 
-holds_on_own : (own : Letter) (core line : ℕ) (letter : Letter) (c : Caches) (a l : ℕ) → fetch_holds (on_own own core line letter c) a l ≡ fetch_holds c a l
+pub holds_on_own : (own : Letter) (core line : ℕ) (letter : Letter) (c : Caches) (a l : ℕ) → fetch_holds (on_own own core line letter c) a l ≡ fetch_holds c a l
 holds_on_own M core line letter c a l = holds_first core line letter c a l
 holds_on_own E core line letter c a l = holds_first core line letter c a l
 holds_on_own S core line letter c a l = holds_first core line letter c a l

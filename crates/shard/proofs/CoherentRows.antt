@@ -138,11 +138,11 @@ alone_from true has h = inl refl
 alone_from false true h = absurd cc
 alone_from false false h = inr refl
 
-dirtied_letter : (b : Bool) (line : ℕ) (c : Caches) (a l : ℕ) → letter_at (cond b (marked_dirty line c) c) a l ≡ letter_at c a l
+pub dirtied_letter : (b : Bool) (line : ℕ) (c : Caches) (a l : ℕ) → letter_at (cond b (marked_dirty line c) c) a l ≡ letter_at c a l
 dirtied_letter true line c a l = letter_marked line c a l
 dirtied_letter false line c a l = refl
 
-there_dirtied : (b : Bool) (line : ℕ) (c : Caches) (l : ℕ) → is_some (dirty_at (cond b (marked_dirty line c) c) l) ≡ is_some (dirty_at c l)
+pub there_dirtied : (b : Bool) (line : ℕ) (c : Caches) (l : ℕ) → is_some (dirty_at (cond b (marked_dirty line c) c) l) ≡ is_some (dirty_at c l)
 there_dirtied true line c l = there_after_marked line c l
 there_dirtied false line c l = refl
 

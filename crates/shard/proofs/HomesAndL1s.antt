@@ -25,6 +25,7 @@ pub mod HomeRows
 pub mod InstructionCopies
 pub mod InstructionsSeen
 pub mod KeptGot
+pub mod LeavingSeen
 pub mod LeftDone
 pub mod LeftSeen
 pub mod LettersSeen

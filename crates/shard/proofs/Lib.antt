@@ -20,12 +20,18 @@ pub mod CoherentRuns
 pub mod CoherentSets
 pub mod CoherentSettled
 pub mod CoherentStand
+mod CopiesBehind
 pub mod Fits
 pub mod HomesAndL1s
+pub mod InstructionsTaken
 pub mod Kept
 pub mod LikeAsks
 pub mod LikeMet
 pub mod L2Laws
+mod LinesBehind
+pub mod LeavingOfCaches
+mod LeavingOfParts
+pub mod LeftBeside
 pub mod Reservations
 pub mod ShardSeen
 pub mod ServedAlone

@@ -33,7 +33,7 @@ module _ (n number : ℕ) (c d : Caches) (p : Part n number c d) (line : ℕ) (i
   copies_same : (core : ℕ) → set_of c.shards line (get_or c.l1 core []) ≡ set_of d.shards line (get_or d.l1 core [])
   copies_same core = rw (p.whole, p.count) ((p.l1 core).same line is)
 
-  instructions_same : (core : ℕ) → set_of c.shards line (get_or c.l1i core []) ≡ set_of d.shards line (get_or d.l1i core [])
+  pub instructions_same : (core : ℕ) → set_of c.shards line (get_or c.l1i core []) ≡ set_of d.shards line (get_or d.l1i core [])
   instructions_same core = rw (p.whole, p.count) ((p.l1i core).same line is)
 
   lines_same : set_of c.shards line c.l2 ≡ set_of d.shards line d.l2

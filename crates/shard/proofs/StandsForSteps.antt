@@ -164,7 +164,7 @@ module _ (n number : ℕ) (some : 0 < n) where
         subst (λ (v : Option (ℕ × Letter)). Part n number whole (in_own_set_of core line (filled d.l1_ways line letter) (written_back v d))) (own_victim_same n number c d p line is core)
         (subst (λ (ways : ℕ). Part n number whole (in_own_set_of core line (filled ways line letter) (written_back victim d))) (sym p.l1_ways) own)
 
-    on_l2_part : (c d : Caches) → Part n number c d → Placed c → (outcome : Outcome) → Part n number (on_l2 outcome line c) (on_l2 outcome line d)
+    pub on_l2_part : (c d : Caches) → Part n number c d → Placed c → (outcome : Outcome) → Part n number (on_l2 outcome line c) (on_l2 outcome line d)
     on_l2_part c d p placed Hit = p
     on_l2_part c d p placed (Upgrade others) = looked_part line is c d p
     on_l2_part c d p placed (L2 others) = looked_part line is c d p
@@ -174,7 +174,7 @@ module _ (n number : ℕ) (some : 0 < n) where
         subst (λ (v : Option (ℕ × Bool)). Part n number (filled_into_l2 line (copies_evicted victim c)) (filled_into_l2 line (copies_evicted v d))) (l2_victim_same n number c d p line is)
         (fetched_part line is (copies_evicted victim c) (copies_evicted victim d) made)
 
-    on_others_part : (c d : Caches) → Part n number c d → (outcome : Outcome) (write : Bool) (core : ℕ) → Part n number (on_others outcome write core line c) (on_others outcome write core line d)
+    pub on_others_part : (c d : Caches) → Part n number c d → (outcome : Outcome) (write : Bool) (core : ℕ) → Part n number (on_others outcome write core line c) (on_others outcome write core line d)
     on_others_part c d p Hit write core = p
     on_others_part c d p (Upgrade others) write core = others_part line is c d p (other_after write) core
     on_others_part c d p (L2 others) write core =

@@ -4,6 +4,8 @@ pub mod BankSteps
 pub mod Coherence
 pub mod HaveL1i
 pub mod Laws
+pub mod Leaving
+pub mod LeavingLaws
 pub mod Marks
 pub mod NewCaches
 pub mod NewParts

@@ -1,5 +1,6 @@
 //! Laws over the definitions alone, each the contract of a function that does nothing.
 ghost use Rattle.shard.specs.Laws.{CoherentStays, CoresStay, EntriesAreOfOneMachine, FetchedLinesAreThere, FetchesChangeNoLetter, FetchesTakeLettersOfOneLine, HitsAreAllowed, Inclusion, InstructionsInclusion, LastIsStamp, MarksAreReservations, NewShardsAreOneMachine, NewShardsStand, NumberStays, OthersLeaveInstructionCaches, OthersTakeOneLine, ReadAfterWrite, SetsStaySound, ShardsAnswer, ShardsStandForAMachine, SingleWriter, StillServes};
+ghost use Rattle.shard.specs.LeavingLaws.{CopiesBehind, InstructionsBehind, LeavingIsTheMachines, LinesBehind};
 ghost use Rattle.shard.specs.NewParts.{NewBanksAreShards, NewPartsAreShards};
 ghost use Rattle.shard.specs.PartsLaws.{OtherBank, OwnBank, PrivateIsOfOneL1, RunsAreOfShards, UntouchedIsApart};
 ghost use Rattle.shard.specs.Touched.{AskedStays, OnlyTouchedCount, TouchedAreKnown};
@@ -72,6 +73,21 @@ pub fn instructions_are_apart()
     ensures letter { FetchesTakeLettersOfOneLine }
     ensures instruction { OthersTakeOneLine }
     ensures there { FetchedLinesAreThere }
+{}
+
+/// Behind an access each core has the lines that it had, but for those that leave to make room and
+/// those that the access writes in another core, and with the line that it reads or writes itself.
+/// Instruction caches keep theirs, whatever is written. The L2 has the line of the access.
+pub fn copies_behind()
+    ensures data { CopiesBehind }
+    ensures instructions { InstructionsBehind }
+    ensures shared { LinesBehind }
+{}
+
+/// What leaves the caches of a shard for an access is what leaves those of the machine for which the
+/// shards stand.
+pub fn leaving_is_the_machines()
+    ensures { LeavingIsTheMachines }
 {}
 
 /// What a shard does with an access to a line of its own is what one machine does, and the shards

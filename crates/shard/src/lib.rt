@@ -3,6 +3,7 @@
 
 mod alone;
 pub mod laws;
+mod leaving;
 mod new_parts;
 mod other_parts;
 mod parts;
@@ -10,6 +11,7 @@ mod shard;
 mod shared;
 mod some_parts;
 
+pub use leaving::Leaving;
 pub use other_parts::others_touched;
 pub use parts::Parts;
 pub use shard::Shard;

@@ -5,12 +5,14 @@ ghost use Rattle.zs_num.specs.declared.entry.Outcome.TheVariants.{Hit};
 ghost use Rattle.zs_num.specs.Request.{bank_of, line_at, line_bytes};
 ghost use Rattle.l1_cache.specs.L1State.{copy_at, newer_bytes};
 ghost use Rattle.shard.specs.Coherence.{dirty_at, fetch_holds, letter_at};
+ghost use Rattle.shard.specs.Leaving.{leaving_of};
 ghost use Rattle.shard.specs.PartsLaws.{AreAllParts};
 ghost use Rattle.shard.specs.Seen.{newest_in, shards_seen};
 ghost use Rattle.shard.specs.Served.{place_of, resumed, shard_after, shard_for, shard_of_line, CanServe, IsServedBy, KnowsCore};
 ghost use Rattle.shard.specs.StandsFor.{new_shards};
 
 use crate::alone::meet_alone;
+use crate::leaving::{Leaving, leaving_here};
 use crate::new_parts::{new_homes, new_l1s};
 use crate::shared::meet_from_home;
 use cache_set::Letter;
@@ -181,6 +183,15 @@ impl Parts {
             Some(row) => Some(row.dirty),
             None => None,
         }
+    }
+
+    /// The lines that leave caches for an access, to make room: what leaves when `serve` serves it next.
+    pub fn leaving(&self, core: u16, request: Request) -> Leaving
+        requires { KnowsCore (shard_for self.now request) core }
+        ensures { result ≡ leaving_of (shard_for self.now request).caches core request }
+    {
+        let bank = remainder(request.line(), self.homes.len() as u64) as usize;
+        leaving_here(&self.homes[bank], &self.l1s[usize::from(core)], &request)
     }
 
     /// The byte at an address of memory.
