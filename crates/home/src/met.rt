@@ -111,8 +111,6 @@ pub(crate) fn find(ways: &Tags, met: &Met, line: u64) -> Option<usize>
 }
 
 /// The same for another line than the one that was looked for last.
-// Out of line, so that the callers, which mostly ask for that one, are short.
-#[inline(never)]
 fn find_elsewhere(ways: &Tags, met: &Met, line: u64) -> Option<usize>
     requires shards { 0 < met.now.dealt.shards }
     requires sets { (0 < ways.now.sets) × (ways.now.sets ≤ 65536) }

@@ -383,6 +383,7 @@ impl L1 {
 
     /// An access that was served elsewhere leaves these 64 bytes of a line that is there. It is
     /// free to write from now on, or not.
+    #[inline(always)]
     pub fn answer(&mut self, line: u64, bytes: &[u8], free: bool)
         requires there { IsSome (copy_at self.old line) }
         requires bytes { length bytes.now ≡ line_bytes }

@@ -1,4 +1,4 @@
-use Rattle.std.proofs.Common.{◌/◌, refl, sym, ap, ◌∙◌}
+use Rattle.std.proofs.Common.{◌/◌, sym, ap, ◌∙◌}
 use Rattle.std.specs.Prelude.{is_some}
 use Rattle.cache_set.proofs.SetsInArrays.{all_past}
 use Rattle.l1_cache.specs.L1State.{instruction_used_in}
