@@ -7,3 +7,4 @@ pub mod RecordedAccesses
 pub mod Records
 pub mod Restamped
 pub mod Turns
+pub mod Unordered

@@ -93,6 +93,13 @@ impl BankLog {
         self.core
     }
 
+    /// For how many accesses there is room.
+    pub fn room(&self) -> u32
+        ensures { result ≡ self.now.room }
+    {
+        self.room
+    }
+
     /// How many accesses there are.
     pub fn len(&self) -> u32
         ensures count { result ≡ length self.now.entries }

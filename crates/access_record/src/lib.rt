@@ -16,6 +16,7 @@ mod record;
 mod record_log;
 mod stamped;
 mod turns;
+mod unordered;
 
 pub use accesses::recorded_accesses;
 pub use bank_log::{BankLog, bank_of_byte, has_events};
@@ -25,3 +26,4 @@ pub use record::Record;
 pub use record_log::RecordLog;
 pub use stamped::Stamped;
 pub use turns::Turns;
+pub use unordered::Unordered;
