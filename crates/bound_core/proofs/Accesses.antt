@@ -12,7 +12,7 @@ use Rattle.rv_core.specs.Step.{after_reply, answered, is_free, unfetched}
 use Rattle.rv_core.proofs.Executes.{AwaitsNoFetch, IsOfNoFetch, executed-executes}
 use Rattle.bound_core.specs.TimedCore.{TimedCore, after_execution, ran_to}
 use Rattle.bound_core.specs.Pacing.{IsSoon}
-use Rattle.bound_core.specs.IntervalBounds.{latest_clock, left_behind, left_behind_fetch, left_of_instruction, most_accesses, most_left}
+use Rattle.bound_core.specs.IntervalBounds.{latest_clock, to_execute, left_behind, left_behind_fetch, left_of_instruction, most_accesses, most_left}
 use Rattle.bound_core.proofs.Instructions.{asks_or_executes, executed_unfetched, ran_late, ran_later, ran_within}
 
 -- ---- of an instruction
@@ -21,7 +21,7 @@ use Rattle.bound_core.proofs.Instructions.{asks_or_executes, executed_unfetched,
 pub unfetched_left : (core : CoreState) → core.is_fetched ≡ false → most_left core ≡ left_of_instruction core.instruction + left_behind_fetch core.instruction
 unfetched_left core e = rw e refl
 
-fetched_left : (core : CoreState) → core.is_fetched ≡ true → most_left core ≡ 256
+pub fetched_left : (core : CoreState) → core.is_fetched ≡ true → most_left core ≡ 256
 fetched_left core e = rw e refl
 
 -- an instruction has at most 256 accesses beside its fetch
@@ -62,7 +62,7 @@ left_ended (ToConsole count) replies core idle e = rw (idle, e) (lit≤ tt)
 left_ended ToExecution replies core idle e = lit≤ tt
 left_ended ToNothing replies core idle e = rw (idle, e) (lit≤ tt)
 
-left_through : (requests : List Request) (replies : List Reply) (ending : Ending) (core : CoreState) → core.instruction ≡ None → core.is_fetched ≡ false
+pub left_through : (requests : List Request) (replies : List Reply) (ending : Ending) (core : CoreState) → core.instruction ≡ None → core.is_fetched ≡ false
     → most_left (goes_through requests replies ending core) ≤ length requests + left_behind ending
 left_through [] replies ending core idle e = omega (arith, left_ended ending replies core idle e)
 left_through (request ∷ requests) replies ending core idle e = rw e (omega arith)
@@ -113,7 +113,7 @@ pub record RunsLocally (end : ℕ) (before ran : TimedCore) : Type 0 where
   pub late_clock : end ≤ before.clock → ran.clock ≤ before.clock + most_left before.core
   pub soon : end ≤ before.clock → ran.clock ≤ before.clock + 192
 
-idle_by : (instruction : Option InProgress) → is_none instruction ≡ true → instruction ≡ None
+pub idle_by : (instruction : Option InProgress) → is_none instruction ≡ true → instruction ≡ None
 idle_by None e = refl
 idle_by (Some now) e = cc
 
@@ -178,21 +178,35 @@ fewer end before ran after t =
           omega (arith, most_past end before late, most_past end after past, t.runs.late late, t.left)
     ]
 
+pub to_execute_small : (fetched : Bool) → to_execute fetched ≤ 192
+to_execute_small true = lit≤ tt
+to_execute_small false = lit≤ tt
+
+-- a core without an access that is left has no instruction to execute behind its fetch
+none_by : (core : CoreState) (fetched : Bool) → core.is_fetched ≡ fetched → most_left core ≡ 0 → to_execute core.is_fetched ≡ 0
+none_by core true e idle = absurd (omega (arith, fetched_left core e, idle))
+none_by core false e idle = ap to_execute e
+
+none_to_execute : (core : CoreState) → most_left core ≡ 0 → to_execute core.is_fetched ≡ 0
+none_to_execute core idle = none_by core core.is_fetched refl idle
+
 pub not_later : (end : ℕ) (before ran after : TimedCore) → TakesAccess end before ran after → latest_clock end after ≤ latest_clock end before
 unfolding latest_clock
 not_later end before ran after t =
+    let small = to_execute_small after.core.is_fetched in
     elim (cases_lt before.clock end) [
-      | inl early ↦ omega (arith, early, t.runs.within, t.soon, t.few, t.left)
-      | inr late ↦ omega (arith, late, t.runs.soon late, t.soon, t.runs.late late, t.left)
+      | inl early ↦ omega (arith, early, t.runs.within, t.soon, t.few, t.left, small)
+      | inr late ↦ omega (arith, late, t.runs.soon late, t.soon, t.runs.late late, t.left, small)
     ]
 
 -- a core that ends its interval was not later than it could be
 pub ran_not_later : (end : ℕ) (before ran : TimedCore) → RunsLocally end before ran → most_left ran.core ≡ 0 → latest_clock end ran ≤ latest_clock end before
 unfolding latest_clock
 ran_not_later end before ran runs idle =
+    let none = none_to_execute ran.core idle in
     elim (cases_lt before.clock end) [
-      | inl early ↦ omega (arith, early, runs.within, idle)
-      | inr late ↦ omega (arith, late, runs.late_clock late, idle)
+      | inl early ↦ omega (arith, early, runs.within, idle, none)
+      | inr late ↦ omega (arith, late, runs.late_clock late, idle, none)
     ]
 
 -- the clock is never later than it can get
@@ -202,7 +216,7 @@ clock_within end c = omega arith
 
 pub latest_small : (end : ℕ) (c : TimedCore) → most_left c.core ≤ 257 → latest_clock end c ≤ max c.clock end + 2 ^ 30
 unfolding latest_clock
-latest_small end c few = omega (arith, few)
+latest_small end c few = omega (arith, few, to_execute_small c.core.is_fetched)
 
 pub end_within : (end : ℕ) (c : TimedCore) → end ≤ latest_clock end c
 unfolding latest_clock

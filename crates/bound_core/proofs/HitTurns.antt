@@ -27,7 +27,7 @@ use Rattle.bound_core.specs.Met.{begun_in_time}
 use Rattle.bound_core.specs.Taken.{Settles, TakesOne, TakesThese}
 use Rattle.bound_core.specs.TimedCore.{TimedCore, after_instruction, core_after_access, ran_to}
 use Rattle.bound_core.specs.Turn.{TakesTurn}
-use Rattle.bound_core.proofs.Accesses.{end_within, most_before, most_past, unfetched_left}
+use Rattle.bound_core.proofs.Accesses.{end_within, most_before, most_past, to_execute_small, unfetched_left}
 use Rattle.bound_core.proofs.FetchedNext.{fetched_is_next, taking}
 use Rattle.bound_core.proofs.Instructions.{asking, asking_held, goes_on_by, held_stops, ran_stays, same_end}
 use Rattle.bound_core.proofs.LedOn.{counted, led_on, none_ahead, one_on, IsThere}
@@ -122,7 +122,7 @@ fewer_later end before after left later early =
 
 latest_kept : (end : ℕ) (before after : TimedCore) → most_left after.core ≤ 256 → after.clock ≤ end → latest_clock end after ≤ latest_clock end before
 unfolding latest_clock
-latest_kept end before after left in_time = omega (arith, left, in_time)
+latest_kept end before after left in_time = omega (arith, left, in_time, to_execute_small after.core.is_fetched)
 
 idle_latest : (end : ℕ) (before after : TimedCore) → most_left after.core ≡ 0 → after.clock ≤ end → latest_clock end after ≤ latest_clock end before
 idle_latest end before after left in_time = latest_kept end before after (omega (arith, left)) in_time

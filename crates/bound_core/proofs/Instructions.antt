@@ -30,7 +30,7 @@ costs_or_halts (Some (Fetch addr)) = inr (refl, refl)
 costs_or_halts (Some (Access addr)) = inr (refl, refl)
 costs_or_halts (Some Break) = inr (refl, refl)
 
-cost_small : (halted : Option Why) → cost halted ≤ 1
+pub cost_small : (halted : Option Why) → cost halted ≤ 1
 cost_small halted = elim (costs_or_halts halted) [ inl one ↦ omega (arith, one) | inr none ↦ omega (arith, none.0) ]
 
 -- ---- what an instruction costs

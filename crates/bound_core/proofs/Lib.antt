@@ -1,5 +1,6 @@
 pub mod Accesses
 pub mod Alike
+mod AloneSteps
 mod AllShards
 pub mod Branches
 pub mod CoreKept

@@ -1,6 +1,8 @@
 -- How many accesses a core can have before it ends its interval, and how late.
-use Rattle.std.specs.Prelude.{ℕ, suc, ◌+◌, ◌-◌, ◌*◌, ◌^◌, max, nat_lt, if◌then◌else◌, length, Option, Some, None}
+use Rattle.std.specs.Prelude.{Bool, ℕ, suc, ◌+◌, ◌-◌, ◌*◌, ◌^◌, max, nat_lt, if◌then◌else◌, length, Option, Some, None}
 use Rattle.rv_core.specs.CoreState.{CoreState, Ending, InProgress, ToConsole, ToExecution, ToNothing, ToRegister}
+use Rattle.rv_core.specs.Step.{is_free}
+use Rattle.bound_core.specs.Ahead.{going}
 use Rattle.bound_core.specs.TimedCore.{TimedCore}
 
 -- how many accesses are left of the instruction in progress, or of its fetch
@@ -30,8 +32,17 @@ most_left core = if core.is_fetched then 256 else left_of_instruction core.instr
 unfoldable pub most_accesses : (end : ℕ) → TimedCore → ℕ
 most_accesses end c = if nat_lt c.clock end then end - c.clock + 256 else most_left c.core
 
+-- the cycles at most of an instruction that was fetched and is still to be executed, without its accesses
+abbrev pub to_execute : (fetched : Bool) → ℕ
+to_execute fetched = if fetched then 192 else 0
+
 -- A cycle that the clock of a core does not pass before the core ends its interval. An access takes 2^20 cycles at
--- most, and an instruction 192, where the access is the first behind a fetch; 2^21 is more than both. Where an
--- instruction was fetched and has no access, its 192 cycles are fewer than the 256 accesses that it might have had.
+-- most, and an instruction 192, where the access is the first behind a fetch; 2^21 is more than both. Neither a step
+-- that the core takes by itself nor a turn makes it later.
 unfoldable pub latest_clock : (end : ℕ) → TimedCore → ℕ
-latest_clock end c = max (c.clock + 2 ^ 21 * most_left c.core) (end + 2 ^ 30)
+latest_clock end c = max (c.clock + to_execute c.core.is_fetched + 2 ^ 21 * most_left c.core) (end + 2 ^ 30)
+
+-- More than the steps that a core takes by itself before it stops: a step costs a cycle at least, or it is the last one,
+-- or it executes an instruction that was fetched.
+abbrev pub steps_left : (end : ℕ) → TimedCore → ℕ
+steps_left end c = 2 * (end - c.clock) + (going (is_free c.core) + going c.core.is_fetched)

@@ -1,11 +1,11 @@
 -- How the turns of a core lie in the bound phase of the machine of one thread.
-use Rattle.std.specs.Prelude.{◌≡◌, ◌⊎◌, ℕ, ◌+◌, ◌-◌, ◌≤◌, IsSome, List, [], ◌∷◌, ◌++◌, length, map, slice_get, slice_set, Some, All, Ok}
+use Rattle.std.specs.Prelude.{◌≡◌, ◌⊎◌, true, false, ℕ, ◌+◌, ◌-◌, ◌≤◌, IsSome, List, [], ◌∷◌, ◌++◌, length, map, slice_get, slice_set, Some, All, Ok}
 use Rattle.zs_num.specs.declared.entry.Entry.{Entry}
 use Rattle.zs_num.specs.declared.request.Request.{Request}
 use Rattle.elf_load.specs.MemoryImage.{MemoryImage}
 use Rattle.rv_core.specs.Sound.{IsSoundCore}
 use Rattle.bound_core.specs.ReferenceMachine.{BoundState, bound_from}
-use Rattle.bound_core.specs.TimedCore.{TimedCore, asks, ran_to}
+use Rattle.bound_core.specs.TimedCore.{TimedCore, after_instruction, asks, goes_on_alone, ran_to}
 use Rattle.bound_core.specs.IntervalBounds.{most_accesses}
 use Rattle.bound_core.specs.Turn.{IsOver, TakesTurn, TurnsToEnd}
 
@@ -25,6 +25,15 @@ with_core s number core = record s { cores = slice_set s.cores number core }
 -- between two instructions.
 abbrev pub LocalInstructionsEnd : Type 0
 LocalInstructionsEnd = (image : MemoryImage) (end : ℕ) (c : TimedCore) → IsSome (asks (ran_to image end c)) ⊎ IsOver end (ran_to image end c)
+
+-- A core that goes on by itself no more has its local instructions behind it.
+abbrev pub StoppedCoresStay : Type 0
+StoppedCoresStay = (image : MemoryImage) (end : ℕ) (c : TimedCore) → goes_on_alone end c ≡ false → ran_to image end c ≡ c
+
+-- One that goes on comes by its next instruction to where it would have come.
+abbrev pub StepsLeadToTheSameEnd : Type 0
+StepsLeadToTheSameEnd = (image : MemoryImage) (end : ℕ) (c : TimedCore) → goes_on_alone end c ≡ true
+    → ran_to image end (after_instruction image c) ≡ ran_to image end c
 
 -- A core whose accesses can all be served has few of them before it ends its interval.
 abbrev pub AccessesAreFew : Type 0

@@ -15,6 +15,7 @@ ghost use Rattle.bound_core.specs.Met.{answered_in_time, begun_in_time};
 ghost use Rattle.bound_core.specs.Taken.{HasTaken, TakesThese};
 ghost use Rattle.bound_core.specs.Turn.{EndsInterval, IfTook, IsOver, RunsToEnd, TookOne, TurnsAs};
 
+mod alone;
 mod local;
 
 use crate::Turned;

@@ -6,7 +6,7 @@ ghost use Rattle.elf_load.specs.MemoryImage.{MemoryImage};
 ghost use Rattle.bound_core.specs.FetchLaws.{FetchesAreExecuted, FetchesChangeTimesAndOutcomesAlone, TurnsAreSteps};
 ghost use Rattle.bound_core.specs.HistoryLaws.{HistoriesArePhases, PhasesAreHistories, RecordedOrderIsHistory, TurnsAreTheCoresOwn, TurnsMakeAHistory};
 ghost use Rattle.bound_core.specs.Intervals.{FirstIntervalBegins, NextIntervalBegins};
-ghost use Rattle.bound_core.specs.Laws.{AccessesAreFew, EndsWhereAllAreOver, LocalInstructionsAreAlone, LocalInstructionsEnd, TurnIsScheduled, TurnsAreScheduled};
+ghost use Rattle.bound_core.specs.Laws.{AccessesAreFew, EndsWhereAllAreOver, LocalInstructionsAreAlone, LocalInstructionsEnd, StepsLeadToTheSameEnd, StoppedCoresStay, TurnIsScheduled, TurnsAreScheduled};
 ghost use Rattle.bound_core.specs.MachineOfShards.{HistoriesAreRunsOfTheMachine, ShardsDoAsTheMachine};
 ghost use Rattle.bound_core.specs.PairedPhases.{HistoriesArePaired, PhasesArePaired};
 ghost use Rattle.bound_core.specs.Reaching.{BeginsAtItself, GoesOnByATurn, GoesOnByLocalInstructions, GoesOnToTheEnd, IsThePhaseAtTheEnd};
@@ -72,6 +72,13 @@ pub fn a_write_between_ends_a_pair()
 /// has come to the interval's end with no instruction in progress.
 pub fn local_instructions_end()
     ensures { LocalInstructionsEnd }
+{}
+
+/// The steps that a core takes by itself, one after the other, lead to where its local instructions
+/// lead: each step leaves the end as it was, and a core that goes on by itself no more stands there.
+pub fn steps_lead_to_the_end()
+    ensures stays { StoppedCoresStay }
+    ensures goes_on { StepsLeadToTheSameEnd }
 {}
 
 /// A core has at most 257 accesses more than cycles before it ends its interval: those of the

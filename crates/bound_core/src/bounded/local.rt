@@ -135,7 +135,7 @@ impl BoundCore {
     /// Whether it goes on by itself: it comes to an instruction before the interval ends, or has
     /// fetched one.
     #[inline(always)]
-    fn goes_on(&self, end: Cycle) -> bool
+    pub(super) fn goes_on(&self, end: Cycle) -> bool
         ensures { result ≡ goes_on_alone end self.now.timed }
     {
         self.core.is_free() && (self.core.is_fetched() || self.clock < end)
@@ -405,7 +405,7 @@ impl BoundCore {
     /// counts it and lets it issue. The registers are read before it is executed.
     #[inline(always)]
     #[tactic(auto, unfolding(crate::specs::TimedCore::after_instruction))]
-    fn step_paced<P: Program>(&mut self, program: &P)
+    pub(super) fn step_paced<P: Program>(&mut self, program: &P)
         requires free { IsTrue (is_free self.old.timed.core) }
         requires clock { self.old.timed.clock ≤ 2 ^ 61 }
         ensures value { self.new.timed ≡ after_instruction (P.image program.now) self.old.timed }
