@@ -123,6 +123,13 @@ impl PartsPort {
         Some(entry)
     }
 
+    /// The caches and the memory.
+    pub fn parts(&self) -> &Parts
+        ensures { result.now ≡ self.now.world.shards }
+    {
+        &self.parts
+    }
+
     /// Gives the parts back.
     pub fn finish(self) -> Parts
         ensures { result ≡ self.world.shards }
