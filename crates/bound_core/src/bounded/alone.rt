@@ -36,6 +36,7 @@ impl BoundCore {
         }
         let before = self.instructions();
         self.step_paced(program);
-        Some(self.instructions() - before)
+        let counted = self.instructions() - before;
+        Some(counted)
     }
 }

@@ -4,8 +4,8 @@ use Rattle.bound_core.proofs.AloneSteps.{counts, step_no_more, step_not_later}
 use Rattle.bound_core.proofs.Instructions.{nearer_alone, not_earlier}
 use Rattle.bound_core.proofs.bounded.BoundCore.step_alone.Goals as goal
 
-pub overflow_sub-result : goal.overflow_sub-result
-overflow_sub-result g c =
+pub overflow_sub-counted : goal.overflow_sub-counted
+overflow_sub-counted g c =
     let counts = counts (g.P.Program.image c.args.program.now) c.args.self.now.timed in
     omega (arith, ap (λ (t : TimedCore). t.instructions) c.step_paced.ensures.value, counts.0, c.instructions.ensures.value, c.instructions-before.ensures.value)
 
