@@ -296,7 +296,7 @@ module _ (laws : CoreLaws) (image : MemoryImage) (end : ℕ) where
 -- ---- whole bound phases
 
 module _ (laws : CoreLaws) (step : ShardsStandForAMachine) (marks_law : MarksAreReservations) (time : Entry → ℕ) (image : MemoryImage) (end : ℕ) where
-  kept_by_turns : KeptByTurns StandForMachine shards_serve machine.serve time image end
+  pub kept_by_turns : KeptByTurns StandForMachine shards_serve machine.serve time image end
   kept_by_turns cores w m number c request r here asked answer is =
       let both = shards_answer laws step marks_law time image end cores w m r number c here request asked in
       let after_both = w_after laws step marks_law time image end cores w m r number c here request asked in

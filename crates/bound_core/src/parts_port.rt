@@ -3,10 +3,12 @@ ghost use Rattle.std.specs.Prelude.{◌≡◌, ◌<◌, ◌≤◌, ◌+◌, ◌-
 ghost use Rattle.zs_num.specs.Servable.{IsServable};
 ghost use Rattle.zs_num.specs.declared.entry.Outcome.TheVariants.{Hit};
 ghost use Rattle.bound_core.specs.ShardPort.{base_in, base_of, l1i_of, room_of, size_in, size_of, AreShardsOf};
+ghost use Rattle.shard.specs.Leaving.{leaving_of};
+ghost use Rattle.shard.specs.Served.{shard_for};
 ghost use Rattle.bound_core.specs.ShardWorld.{begun_world, restarted, shards_serve};
 
 use rv_core::Port;
-use shard::Parts;
+use shard::{Leaving, Parts};
 use std::alloc::{AllocError, Global};
 use std::marker::Model;
 use zs_num::{Cycle, Entry, NoMemory, Request, Stamp};
@@ -128,6 +130,14 @@ impl PartsPort {
         ensures { result.now ≡ self.now.world.shards }
     {
         &self.parts
+    }
+
+    /// Which lines leave caches for this request of the chosen core, to make room.
+    #[inline(always)]
+    pub fn leaving(&self, request: Request) -> Leaving
+        ensures { result ≡ leaving_of (shard_for self.now.world.shards request).caches self.now.core request }
+    {
+        self.parts.leaving(self.core, request)
     }
 
     /// Gives the parts back.
