@@ -6,11 +6,11 @@ use Rattle.zs_num.specs.declared.request.Request.TheVariants as request
 use Rattle.elf_load.specs.MemoryImage.{MemoryImage}
 use Rattle.rv_core.specs.CoreState.{CoreState, ToExecution}
 use Rattle.rv_core.specs.Step.{asks_for_instruction, cost, executed, is_free, unfetched}
-use Rattle.bound_core.specs.IntervalBounds.{latest_clock, most_accesses, most_left, to_execute}
-use Rattle.bound_core.specs.Pacing.{IsSoon}
-use Rattle.bound_core.specs.TimedCore.{TimedCore, after_execution, after_instruction, goes_on_alone}
-use Rattle.bound_core.proofs.Accesses.{executed_left, fetched_left, idle_by, left_through, most_before, most_past, to_execute_small}
-use Rattle.bound_core.proofs.Instructions.{asks_or_executes, cost_small, executed_unfetched, late_fetched, not_earlier, soon_at_most}
+use Rattle.reference.specs.IntervalBounds.{latest_clock, most_accesses, most_left, to_execute}
+use Rattle.reference.specs.Pacing.{IsSoon}
+use Rattle.reference.specs.TimedCore.{TimedCore, after_execution, after_instruction, goes_on_alone}
+use Rattle.reference.proofs.Accesses.{executed_left, fetched_left, idle_by, left_through, most_before, most_past, to_execute_small}
+use Rattle.reference.proofs.Instructions.{asks_or_executes, cost_small, executed_unfetched, late_fetched, not_earlier, soon_at_most}
 
 -- what it counts
 pub counts : (image : MemoryImage) (c : TimedCore)

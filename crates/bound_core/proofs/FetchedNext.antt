@@ -3,8 +3,8 @@ use Rattle.std.proofs.Common.{◌≡◌, ℕ, ◌∙◌, ◌<◌, true, false, N
 use Rattle.elf_load.specs.MemoryImage.{MemoryImage}
 use Rattle.rv_core.specs.CoreState.{CoreState}
 use Rattle.rv_core.specs.Step.{is_free, needs_fetch, unfetched}
-use Rattle.bound_core.specs.TimedCore.{TimedCore, after_execution, after_instruction, ran_to}
-use Rattle.bound_core.proofs.Instructions.{goes_on_by, plain_execution, same_end}
+use Rattle.reference.specs.TimedCore.{TimedCore, after_execution, after_instruction, ran_to}
+use Rattle.reference.proofs.Instructions.{goes_on_by, plain_execution, same_end}
 
 -- the core for which the fetch is over
 abbrev pub taking : TimedCore → TimedCore

@@ -21,15 +21,15 @@ use Rattle.rv_core.specs.Hits.{line_of, moment_of, GoesOn, HasGoneOn, IsOnItsWay
 use Rattle.rv_core.specs.Single.{access_of, begun}
 use Rattle.rv_core.specs.Step.{answered, executed, is_free, needs_fetch}
 use Rattle.rv_core.proofs.Fetches.{latest-needs, never-needs}
-use Rattle.bound_core.specs.Ahead.{ahead}
-use Rattle.bound_core.specs.IntervalBounds.{latest_clock, most_accesses, most_left}
+use Rattle.reference.specs.Ahead.{ahead}
+use Rattle.reference.specs.IntervalBounds.{latest_clock, most_accesses, most_left}
 use Rattle.bound_core.specs.Met.{begun_in_time}
 use Rattle.bound_core.specs.Taken.{Settles, TakesOne, TakesThese}
-use Rattle.bound_core.specs.TimedCore.{TimedCore, after_instruction, core_after_access, ran_to}
-use Rattle.bound_core.specs.Turn.{TakesTurn}
-use Rattle.bound_core.proofs.Accesses.{end_within, most_before, most_past, to_execute_small, unfetched_left}
+use Rattle.reference.specs.TimedCore.{TimedCore, after_instruction, core_after_access, ran_to}
+use Rattle.reference.specs.Turn.{TakesTurn}
+use Rattle.reference.proofs.Accesses.{end_within, most_before, most_past, to_execute_small, unfetched_left}
 use Rattle.bound_core.proofs.FetchedNext.{fetched_is_next, taking}
-use Rattle.bound_core.proofs.Instructions.{asking, asking_held, goes_on_by, held_stops, ran_stays, same_end}
+use Rattle.reference.proofs.Instructions.{asking, asking_held, goes_on_by, held_stops, ran_stays, same_end}
 use Rattle.bound_core.proofs.LedOn.{counted, led_on, none_ahead, one_on, IsThere}
 use Rattle.bound_core.proofs.Meeting.{access_made, begun_stops}
 use Rattle.bound_core.proofs.TheseTurns.{settles_itself, these_more, these_on}

@@ -11,10 +11,10 @@ use Rattle.rv_core.specs.Executions.{at, LeadsTo, LiesIn}
 use Rattle.rv_core.specs.Single.{begun}
 use Rattle.rv_core.specs.Step.{cost, executed, is_free, is_latest, needs_fetch, unfetched}
 use Rattle.rv_core.proofs.Fetches.{latest-needs, never-needs}
-use Rattle.bound_core.specs.Ahead.{ahead}
+use Rattle.reference.specs.Ahead.{ahead}
 use Rattle.bound_core.specs.Met.{begun_in_time, met_count}
-use Rattle.bound_core.specs.TimedCore.{TimedCore, after_execution, after_instruction, ran_to}
-use Rattle.bound_core.proofs.Instructions.{goes_on_by, plain_execution, same_end}
+use Rattle.reference.specs.TimedCore.{TimedCore, after_execution, after_instruction, ran_to}
+use Rattle.reference.proofs.Instructions.{goes_on_by, plain_execution, same_end}
 
 -- the core with these registers, at this address
 abbrev pub timed_at : TimedCore → (registers : List ℕ) → (pc : ℕ) → TimedCore

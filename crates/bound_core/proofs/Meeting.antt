@@ -13,10 +13,10 @@ use Rattle.rv_core.specs.CoreState.{CoreState}
 use Rattle.rv_core.specs.Single.{access_of, begun, begun_if, comes_to_next, met_by}
 use Rattle.rv_core.specs.Sound.{IsSoundCore}
 use Rattle.rv_core.specs.Step.{answered, is_free}
-use Rattle.bound_core.specs.TimedCore.{TimedCore, asks, core_after_access, goes_on_alone, ran_to}
+use Rattle.reference.specs.TimedCore.{TimedCore, asks, core_after_access, goes_on_alone, ran_to}
 use Rattle.bound_core.specs.Met.{begun_in_time}
-use Rattle.bound_core.proofs.CoreKept.{CoreLaws, ran_stays_sound}
-use Rattle.bound_core.proofs.MoreServable.{more_servable}
+use Rattle.reference.proofs.CoreKept.{CoreLaws, ran_stays_sound}
+use Rattle.reference.proofs.MoreServable.{more_servable}
 
 -- a step behind which the core comes to another instruction met no access
 pub none_met : (did : Did) → comes_to_next did ≡ true → met_by did ≡ None

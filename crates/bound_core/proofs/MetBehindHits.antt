@@ -11,11 +11,11 @@ use Rattle.rv_core.specs.Executions.{LiesIn}
 use Rattle.rv_core.specs.Hits.{line_of}
 use Rattle.rv_core.specs.Single.{begun}
 use Rattle.rv_core.specs.Step.{executed, is_latest}
-use Rattle.bound_core.specs.Ahead.{ahead}
+use Rattle.reference.specs.Ahead.{ahead}
 use Rattle.bound_core.specs.Met.{begun_in_time}
-use Rattle.bound_core.specs.TimedCore.{TimedCore, ran_to}
+use Rattle.reference.specs.TimedCore.{TimedCore, ran_to}
 use Rattle.bound_core.proofs.HitTurns.{idle_parts}
-use Rattle.bound_core.proofs.Instructions.{ran_stays}
+use Rattle.reference.proofs.Instructions.{ran_stays}
 use Rattle.bound_core.proofs.LedOn.{anywhere, from_none_ahead, in_line, led_and_met, IsThere}
 use Rattle.bound_core.proofs.Meeting.{begun_stops}
 

@@ -12,7 +12,7 @@ use Rattle.shard.specs.Served.{ShardState, new_caches_of_shard, new_shard, no_sh
 use Rattle.shard.specs.StandsFor.{new_shards}
 use Rattle.shard.specs.HaveL1i.{have_l1i}
 use Rattle.bound_core.specs.ShardPort.{AreShardsOf, base_in, size_in}
-use Rattle.bound_core.specs.ShardWorld.{restarted}
+use Rattle.reference.specs.ShardWorld.{restarted}
 use Rattle.bound_core.proofs.Alike.{alike_by}
 
 module _ (machine : Machine) (image : MemoryImage) where

@@ -6,7 +6,7 @@ use Rattle.zs_num.specs.declared.entry.Entry.{Entry}
 use Rattle.zs_num.specs.declared.request.Request.{Request}
 use Rattle.shard.specs.Served.{IsServedBy, KnowsCore, ShardState, shard_after, shard_for}
 use Rattle.bound_core.specs.ShardPort.{IsShardAt, IsShardPort, base_in, base_of, l1i_in, l1i_of, size_in, size_of}
-use Rattle.bound_core.specs.ShardWorld.{ShardWorld, shards_serve}
+use Rattle.reference.specs.ShardWorld.{ShardWorld, shards_serve}
 use Rattle.bound_core.proofs.ShardPorts.{l1i_set, own_memory, port_set, served_is, shard_there, shards_set}
 use Rattle.bound_core.proofs.ShardsStay.{one_has, one_stays}
 

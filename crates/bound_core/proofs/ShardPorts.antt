@@ -10,9 +10,9 @@ use Rattle.zs_num.specs.declared.request.Request.{Request}
 use Rattle.shard.specs.HaveL1i.{have_l1i}
 use Rattle.shard.specs.Served.{CanServe, IsServedBy, ShardState, no_shard, shard_after, shard_for}
 use Rattle.bound_core.specs.ShardPort.{AreShardsOf, IsShardAt, IsShardPort, ShardPortState, base_in, base_of, greatest, greatest_stamp, l1i_in, l1i_of, size_in, size_of}
-use Rattle.bound_core.specs.ShardWorld.{ShardWorld, recorded_by_shard, restarted, shards_serve}
+use Rattle.reference.specs.ShardWorld.{ShardWorld, recorded_by_shard, restarted, shards_serve}
 use Rattle.bound_core.proofs.Alike.{EachHas, alike_by, first_has}
-use Rattle.bound_core.proofs.HistoryTurn.{recorded_is}
+use Rattle.reference.proofs.HistoryTurn.{recorded_is}
 
 -- ---- lists
 

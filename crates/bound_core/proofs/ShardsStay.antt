@@ -13,9 +13,9 @@ use Rattle.access_log.specs.History.{bank_of_entry, each_after, of_bank}
 use Rattle.access_log.proofs.EachAfter.{own_at}
 use Rattle.shard.specs.HaveL1i.{have_l1i}
 use Rattle.bound_core.specs.ShardPort.{AreShardsOf, IsShardAt, l1i_in}
-use Rattle.bound_core.specs.ShardWorld.{restarted}
+use Rattle.reference.specs.ShardWorld.{restarted}
 use Rattle.bound_core.proofs.Alike.{alike_by, first_has}
-use Rattle.bound_core.proofs.ShardKept.{marks_kept}
+use Rattle.reference.proofs.ShardKept.{marks_kept}
 
 module _ (count cores number base size : ℕ) where
   pub one_stays : (shard : ShardState) (e : Entry) → IsShardAt count cores number base size shard → IsShardAt count cores number base size (shard_after shard e)

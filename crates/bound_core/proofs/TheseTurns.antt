@@ -3,11 +3,11 @@ use Rattle.std.proofs.Common.{◌≡◌, ℕ, ◌+◌, ◌≤◌, List, [], ◌�
 use Rattle.zs_num.specs.declared.entry.Entry.{Entry}
 use Rattle.zs_num.specs.declared.request.Request.{Request}
 use Rattle.elf_load.specs.MemoryImage.{MemoryImage}
-use Rattle.bound_core.specs.IntervalBounds.{latest_clock, most_accesses}
+use Rattle.reference.specs.IntervalBounds.{latest_clock, most_accesses}
 use Rattle.bound_core.specs.Taken.{HasTaken, Settles, TakesOne, TakesThese}
-use Rattle.bound_core.specs.TimedCore.{TimedCore, asks, core_after_access, ran_to}
-use Rattle.bound_core.specs.Turn.{TakesTurn, TurnsToEnd}
-use Rattle.bound_core.proofs.Lists.{all_none}
+use Rattle.reference.specs.TimedCore.{TimedCore, asks, core_after_access, ran_to}
+use Rattle.reference.specs.Turn.{TakesTurn, TurnsToEnd}
+use Rattle.reference.proofs.Lists.{all_none}
 use Rattle.bound_core.proofs.Turns.{gains_nothing, none_taken, one_more, taken_both}
 
 module _ {Port : Type 0} (time : Entry → ℕ) (image : MemoryImage) (end : ℕ) (gives : Port → (start : ℕ) → Request → Entry → Port → Type 0) where

@@ -9,14 +9,14 @@ use Rattle.rv_core.specs.CoreState.{InProgress}
 use Rattle.rv_core.specs.Sound.{IsSoundCore}
 use Rattle.rv_core.specs.Step.{answered}
 use Rattle.rv_core.specs.Port.{Gains}
-use Rattle.bound_core.specs.TimedCore.{TimedCore, asks, core_after_access, next_request, ran_to}
-use Rattle.bound_core.specs.Pacing.{IsSoon}
-use Rattle.bound_core.specs.IntervalBounds.{latest_clock, left_of_instruction, most_accesses, most_left}
+use Rattle.reference.specs.TimedCore.{TimedCore, asks, core_after_access, next_request, ran_to}
+use Rattle.reference.specs.Pacing.{IsSoon}
+use Rattle.reference.specs.IntervalBounds.{latest_clock, left_of_instruction, most_accesses, most_left}
 use Rattle.bound_core.specs.Taken.{HasTaken}
-use Rattle.bound_core.specs.Turn.{EndsInterval, IsOver, RunsToEnd, TakesTurn, TurnsToEnd}
-use Rattle.bound_core.proofs.Accesses.{RunsLocally, TakesAccess, left_answered, left_few, runs_locally, start_within, unfetched_left, waiting_unfetched}
-use Rattle.bound_core.proofs.Instructions.{local_instructions_end}
-use Rattle.bound_core.proofs.Lists.{all_and_one, all_none}
+use Rattle.reference.specs.Turn.{EndsInterval, IsOver, RunsToEnd, TakesTurn, TurnsToEnd}
+use Rattle.reference.proofs.Accesses.{RunsLocally, TakesAccess, left_answered, left_few, runs_locally, start_within, unfetched_left, waiting_unfetched}
+use Rattle.reference.proofs.Instructions.{local_instructions_end}
+use Rattle.reference.proofs.Lists.{all_and_one, all_none}
 
 -- ---- one turn
 

@@ -3,7 +3,7 @@ use Rattle.std.specs.Prelude.{ℕ, ◌++◌, option_to_list, Option, Some, None}
 use Rattle.rv_core.specs.declared.single.Single.{Single}
 use Rattle.rv_core.specs.Single.{begun_if}
 use Rattle.rv_core.specs.Step.{answered, console_byte}
-use Rattle.bound_core.specs.TimedCore.{TimedCore}
+use Rattle.reference.specs.TimedCore.{TimedCore}
 
 -- the core in time once it has begun the instruction that it met, if it met one
 abbrev pub begun_in_time : Option Single → TimedCore → TimedCore

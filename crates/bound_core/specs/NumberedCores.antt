@@ -1,6 +1,6 @@
 -- Cores as the program has them.
 use Rattle.std.specs.Prelude.{ℕ, List, map}
-use Rattle.bound_core.specs.TimedCore.{TimedCore}
+use Rattle.reference.specs.TimedCore.{TimedCore}
 
 -- a core with its number, and the room on its console
 pub record NumberedCore : Type 0 where

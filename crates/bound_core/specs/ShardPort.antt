@@ -2,7 +2,7 @@
 use Rattle.std.specs.Prelude.{◌≡◌, ◌<◌, ℕ, Bool, ◌-◌, ◌^◌, max, List, [], ◌∷◌, length, map, slice_get, slice_index_or, Some}
 use Rattle.shard.specs.HaveL1i.{have_l1i}
 use Rattle.shard.specs.Served.{ShardState, no_shard}
-use Rattle.bound_core.specs.ShardWorld.{ShardWorld}
+use Rattle.reference.specs.ShardWorld.{ShardWorld}
 
 pub record ShardPortState : Type 0 where
   pub world : ShardWorld

@@ -4,9 +4,9 @@ use Rattle.zs_num.specs.declared.entry.Entry.{Entry}
 use Rattle.zs_num.specs.declared.request.Request.{Request}
 use Rattle.elf_load.specs.MemoryImage.{MemoryImage}
 use Rattle.rv_core.specs.Port.{Gains}
-use Rattle.bound_core.specs.TimedCore.{TimedCore, ran_to}
-use Rattle.bound_core.specs.Turn.{TakesTurn, TurnsToEnd}
-use Rattle.bound_core.specs.IntervalBounds.{latest_clock, most_accesses}
+use Rattle.reference.specs.TimedCore.{TimedCore, ran_to}
+use Rattle.reference.specs.Turn.{TakesTurn, TurnsToEnd}
+use Rattle.reference.specs.IntervalBounds.{latest_clock, most_accesses}
 
 module _ {Port : Type 0} (time : Entry → ℕ) (image : MemoryImage) (end : ℕ) (gives : Port → (start : ℕ) → Request → Entry → Port → Type 0) where
   -- the turns so far: with those that follow they are the turns of the whole interval

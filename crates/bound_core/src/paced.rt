@@ -6,7 +6,7 @@ ghost use Rattle.pipe_core.specs.PaceLaws.{GoesOnFrom};
 ghost use Rattle.rv_core.specs.Asked.{stepped};
 ghost use Rattle.rv_core.specs.Decoded.{HasRegisters};
 ghost use Rattle.rv_core.specs.Step.{is_free, needs_fetch};
-ghost use Rattle.bound_core.specs.TimedCore.{paced, takes};
+ghost use Rattle.reference.specs.TimedCore.{paced, takes};
 
 use crate::loops::Paced;
 use machine_desc::Pipe;

@@ -5,7 +5,7 @@ ghost use Rattle.zs_num.specs.declared.entry.Outcome.TheVariants.{Hit};
 ghost use Rattle.bound_core.specs.ShardPort.{base_in, base_of, l1i_of, room_of, size_in, size_of, AreShardsOf};
 ghost use Rattle.shard.specs.Leaving.{leaving_of};
 ghost use Rattle.shard.specs.Served.{shard_for};
-ghost use Rattle.bound_core.specs.ShardWorld.{begun_world, restarted, shards_serve};
+ghost use Rattle.reference.specs.ShardWorld.{begun_world, restarted, shards_serve};
 
 use rv_core::Port;
 use shard::{Leaving, Parts};

@@ -1,7 +1,7 @@
 //! The accesses of cores to a bare list of shards.
 ghost use Rattle.std.specs.Prelude.{◌≡◌, ◌<◌, ◌≤◌, ◌-◌, ◌^◌, length, map, replicate, IfOk, IfErr, OnErr};
 ghost use Rattle.bound_core.specs.ShardPort.{base_in, base_of, l1i_of, room_of, size_in, size_of, AreShardsOf};
-ghost use Rattle.bound_core.specs.ShardWorld.{begun_world, restarted, shards_serve};
+ghost use Rattle.reference.specs.ShardWorld.{begun_world, restarted, shards_serve};
 
 use division::remainder;
 use rv_core::Port;

@@ -16,7 +16,7 @@ use Rattle.bound_core.specs.NumberedCores.{NumberedCore}
 use Rattle.bound_core.specs.IntervalBounds.{latest_clock, most_accesses, most_left}
 use Rattle.rv_core.specs.Port.{Gains}
 use Rattle.bound_core.specs.Turn.{IsOver, RunsToEnd, TurnsToEnd}
-use Rattle.bound_core.proofs.Accesses.{latest_small}
+use Rattle.reference.proofs.Accesses.{latest_small}
 use Rattle.bound_phase.specs.Member.{HasRun}
 use Rattle.bound_phase.specs.declared.member.Member.{Member}
 

@@ -19,7 +19,7 @@ use Rattle.access_record.specs.declared.turns.Turns.TheVariants.{CoreByCore, Lis
 use Rattle.stats.specs.declared.counts.CoreCount.{CoreCount}
 use Rattle.stats.specs.Counted.{no_core_count}
 use Rattle.bound_core.specs.ShardWorld.{ShardWorld, begun_world, restarted}
-use Rattle.bound_core.proofs.Lists.{get_set}
+use Rattle.reference.proofs.Lists.{get_set}
 use Rattle.weave_chains.specs.Listed.{list_of, one_after_other}
 use Rattle.bound_records.specs.Counted.{count_of}
 use Rattle.bound_records.specs.CoreRuns.{first_port}

@@ -6,7 +6,7 @@ use Rattle.machine_desc.specs.declared.machine.Machine.{Machine}
 use Rattle.access_record.specs.Records.{IsInReach}
 use Rattle.bound_core.specs.NumberedCores.{NumberedCore, timed_of}
 use Rattle.bound_core.specs.Turn.{IsOver}
-use Rattle.bound_core.proofs.Accesses.{clock_within}
+use Rattle.reference.proofs.Accesses.{clock_within}
 use Rattle.bound_records.specs.CoreRuns.{access_time_of, phase_in}
 use Rattle.bound_records.specs.Recorders.{RecorderState}
 use Rattle.bound_records.specs.Turns.{HaveTaken}

@@ -10,7 +10,7 @@ use Rattle.access_record.specs.RecordLogs.{RecordLogState}
 use Rattle.stats.specs.declared.counts.CoreCount.{CoreCount}
 use Rattle.bound_core.specs.ShardPort.{room_of}
 use Rattle.bound_core.specs.ShardWorld.{ShardWorld}
-use Rattle.bound_core.proofs.Lists.{get_set}
+use Rattle.reference.proofs.Lists.{get_set}
 use Rattle.weave_chains.specs.Listed.{list_of}
 use Rattle.bound_records.specs.Recorders.{AreKeptOf, IsKeptOf, RecorderState, TurnPortState, with_access_of}
 use Rattle.bound_records.proofs.Lists.{has_at}

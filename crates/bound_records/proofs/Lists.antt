@@ -13,7 +13,7 @@ use Rattle.access_log.specs.RecordedOrder.{comes_before, placed, recorded_order}
 use Rattle.access_record.specs.BankLogs.{makes_events}
 use Rattle.access_record.specs.Laws.{beyond_hits, kept_of}
 use Rattle.weave_chains.specs.Listed.{one_after_other}
-use Rattle.bound_core.proofs.Lists.{get_set}
+use Rattle.reference.proofs.Lists.{get_set}
 
 -- ---- one place of a list
 

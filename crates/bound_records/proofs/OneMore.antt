@@ -8,7 +8,7 @@ use Rattle.zs_num.specs.declared.entry.Entry.{Entry}
 use Rattle.elf_load.specs.MemoryImage.{MemoryImage}
 use Rattle.machine_desc.specs.declared.machine.Machine.{Machine}
 use Rattle.access_record.specs.Records.{IsInReach}
-use Rattle.bound_core.specs.Laws.{moved}
+use Rattle.bound_core.specs.TurnLaws.{moved}
 use Rattle.bound_core.specs.Reaching.{Reaches}
 use Rattle.bound_core.specs.ReferenceMachine.{BoundState}
 use Rattle.bound_core.specs.ShardPort.{base_of, l1i_of, room_of, size_of}
@@ -16,7 +16,7 @@ use Rattle.bound_core.specs.ShardWorld.{ShardWorld, shards_serve}
 use Rattle.bound_core.specs.TimedCore.{TimedCore}
 use Rattle.bound_core.specs.NumberedCores.{NumberedCore, timed_of}
 use Rattle.bound_core.specs.Turn.{IsOver}
-use Rattle.bound_core.proofs.Reaching.{at_itself}
+use Rattle.reference.proofs.Reaching.{at_itself}
 use Rattle.weave_chains.specs.Listed.{one_after_other}
 use Rattle.bound_records.specs.CoreRuns.{AreNumbered, CanRunInterval, HasRecorded, HaveRecorded, access_time_of, phase_in}
 use Rattle.bound_records.specs.Recorders.{IsRecorderFor, RecorderState, core_room, entries_of}

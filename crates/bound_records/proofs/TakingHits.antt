@@ -9,7 +9,7 @@ use Rattle.std.proofs.Math.Seq.{take-append-add}
 use Rattle.zs_num.specs.declared.entry.Entry.{Entry}
 use Rattle.elf_load.specs.MemoryImage.{MemoryImage}
 use Rattle.bound_core.specs.IntervalBounds.{latest_clock, most_accesses}
-use Rattle.bound_core.specs.Laws.{with_core}
+use Rattle.bound_core.specs.TurnLaws.{with_core}
 use Rattle.bound_core.specs.NumberedCores.{NumberedCore}
 use Rattle.bound_core.specs.Reaching.{Reaches}
 use Rattle.bound_core.specs.ReferenceMachine.{BoundState, bound_from}
@@ -18,8 +18,8 @@ use Rattle.bound_core.specs.ShardWorld.{ShardWorld, shards_serve}
 use Rattle.bound_core.specs.Taken.{Settles, TakesThese}
 use Rattle.bound_core.specs.TimedCore.{TimedCore, ran_to}
 use Rattle.bound_core.specs.Turn.{IsOver}
-use Rattle.bound_core.proofs.Lists.{get_set, set_again}
-use Rattle.bound_core.proofs.Phase.{local_alone}
+use Rattle.reference.proofs.Lists.{get_set, set_again}
+use Rattle.reference.proofs.Phase.{local_alone}
 use Rattle.weave_chains.specs.Listed.{list_of}
 use Rattle.bound_records.specs.Recorders.{GivesTurn, RecorderState, TurnPortState}
 use Rattle.bound_records.specs.Turns.{HaveTaken, IsOnItsWay, TakesAccess, chosen, phase_by}

@@ -13,7 +13,7 @@ use Rattle.rv_core.specs.declared.why.Why.{Why}
 use Rattle.elf_load.specs.MemoryImage.{MemoryImage}
 use Rattle.access_log.specs.History.{of_core}
 use Rattle.access_record.specs.Records.{IsInReach}
-use Rattle.bound_core.specs.Laws.{AnswersAsWorld, moved, with_core}
+use Rattle.bound_core.specs.TurnLaws.{AnswersAsWorld, moved, with_core}
 use Rattle.bound_core.specs.Reaching.{Reaches}
 use Rattle.bound_core.specs.ReferenceMachine.{BoundState, are_done, bound_from, bound_phase}
 use Rattle.bound_core.specs.ShardPort.{base_of, l1i_of, room_of, size_of}
@@ -22,9 +22,9 @@ use Rattle.bound_core.specs.TimedCore.{TimedCore, asks, goes_on_alone, next_requ
 use Rattle.bound_core.specs.NumberedCores.{NumberedCore, timed_of}
 use Rattle.bound_core.specs.IntervalBounds.{latest_clock, most_accesses}
 use Rattle.bound_core.specs.Turn.{IsOver}
-use Rattle.bound_core.proofs.Instructions.{late_stops, ran_later, ran_stays}
-use Rattle.bound_core.proofs.Lists.{get_set}
-use Rattle.bound_core.proofs.Reaching.{by_itself, by_turn}
+use Rattle.reference.proofs.Instructions.{late_stops, ran_later, ran_stays}
+use Rattle.reference.proofs.Lists.{get_set}
+use Rattle.reference.proofs.Reaching.{by_itself, by_turn}
 use Rattle.weave_chains.specs.Listed.{list_of}
 use Rattle.bound_records.specs.CoreRuns.{AreNumbered}
 use Rattle.bound_records.specs.Recorders.{GivesTurn, RecorderState, TurnPortState, with_access_of}

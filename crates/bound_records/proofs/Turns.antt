@@ -14,7 +14,7 @@ use Rattle.machine_desc.specs.declared.machine.Machine.{Machine}
 use Rattle.noc_mesh.specs.declared.net.Net.{Net}
 use Rattle.noc_mesh.specs.NetTiming.{net_time}
 use Rattle.access_record.specs.Records.{IsInReach}
-use Rattle.bound_core.specs.Laws.{AnswersAsWorld, moved}
+use Rattle.bound_core.specs.TurnLaws.{AnswersAsWorld, moved}
 use Rattle.bound_core.specs.Reaching.{Reaches}
 use Rattle.bound_core.specs.ReferenceMachine.{BoundState}
 use Rattle.bound_core.specs.ShardPort.{base_of, l1i_of, room_of, size_of}
@@ -23,10 +23,10 @@ use Rattle.bound_core.specs.TimedCore.{TimedCore, core_after_access, ran_to}
 use Rattle.bound_core.specs.NumberedCores.{NumberedCore}
 use Rattle.bound_core.specs.IntervalBounds.{latest_clock, most_accesses, most_left}
 use Rattle.bound_core.specs.Turn.{RunsToEnd, TurnsToEnd}
-use Rattle.bound_core.proofs.Accesses.{clock_within, latest_small}
-use Rattle.bound_core.proofs.Instructions.{ran_later}
-use Rattle.bound_core.proofs.Lists.{set_same}
-use Rattle.bound_core.proofs.Reaching.{by_turns}
+use Rattle.reference.proofs.Accesses.{clock_within, latest_small}
+use Rattle.reference.proofs.Instructions.{ran_later}
+use Rattle.reference.proofs.Lists.{set_same}
+use Rattle.reference.proofs.Reaching.{by_turns}
 use Rattle.bound_records.specs.CoreRuns.{CanRunInterval, HasRecorded, HasRunToEnd, IsNear, IsNetOf, access_time_of, first_port}
 use Rattle.bound_records.specs.Recorders.{GivesRecorded, RecordPortState, RecorderState, core_room}
 

@@ -19,7 +19,7 @@ use Rattle.bound_core.specs.TimedCore.{TimedCore, beside_cycles}
 use Rattle.bound_core.specs.NumberedCores.{NumberedCore, timed_of}
 use Rattle.bound_core.specs.IntervalBounds.{latest_clock, most_accesses}
 use Rattle.bound_core.specs.Turn.{IsOver}
-use Rattle.bound_core.proofs.Reaching.{at_itself}
+use Rattle.reference.proofs.Reaching.{at_itself}
 use Rattle.bound_records.specs.CoreRuns.{AreNumbered, CanRunInterval, phase_in}
 use Rattle.bound_records.specs.Recorders.{IsRecorderFor, RecorderState, core_room}
 use Rattle.bound_records.specs.Turns.{HaveTaken, IsOnItsWay, phase_by}

@@ -18,8 +18,8 @@ use Rattle.bound_core.specs.ShardPort.{AreShardsOf, base_in, base_of, greatest, 
 use Rattle.bound_core.specs.ShardWorld.{ShardWorld, begun_world, restarted, shards_serve}
 use Rattle.bound_core.specs.NumberedCores.{NumberedCore, timed_of}
 use Rattle.bound_core.specs.Turn.{IsOver}
-use Rattle.bound_core.proofs.Reaching.{whole_phase}
-use Rattle.bound_core.proofs.Restarted.{no_last}
+use Rattle.reference.proofs.Reaching.{whole_phase}
+use Rattle.reference.proofs.Restarted.{no_last}
 use Rattle.bound_core.proofs.ShardPorts.{own_memory}
 use Rattle.bound_records.specs.CoreRuns.{AreNumbered, HaveRecorded, access_time_of, phase_in}
 use Rattle.bound_records.specs.Intervals.{begun}

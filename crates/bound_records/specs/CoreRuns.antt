@@ -8,7 +8,7 @@ use Rattle.event_graph.specs.AccessPaths.{path_of}
 use Rattle.noc_mesh.specs.declared.net.Net.{Net}
 use Rattle.noc_mesh.specs.NetTiming.{net_time}
 use Rattle.access_record.specs.Records.{IsInReach}
-use Rattle.bound_core.specs.Laws.{moved}
+use Rattle.bound_core.specs.TurnLaws.{moved}
 use Rattle.bound_core.specs.Reaching.{Reaches}
 use Rattle.bound_core.specs.ReferenceMachine.{BoundState}
 use Rattle.bound_core.specs.ShardPort.{base_of, l1i_of, room_of, size_of}

@@ -30,7 +30,7 @@ use Rattle.bound_core.specs.ShardPort.{AreShardsOf, base_in, l1i_in, size_in}
 use Rattle.bound_core.specs.ShardWorld.{ShardWorld, restarted, shards_serve}
 use Rattle.bound_core.specs.TimedCore.{TimedCore, asks, ran_to}
 use Rattle.bound_core.specs.Turn.{IsOver}
-use Rattle.bound_core.proofs.Numbered.{EachHolds}
+use Rattle.reference.proofs.Numbered.{EachHolds}
 use Rattle.bound_core.proofs.ShardPorts.{shards_restarted}
 use Rattle.bound_core.proofs.ShardsStay.{shards_after}
 use Rattle.bound_records.specs.Apart.{AreNewPartsOf, AreRecorderParts, AreTurnsOfLists, IsKeptIn, lists_in, new_record, recorder_of}

@@ -9,7 +9,7 @@ use Rattle.zs_num.specs.declared.entry.Entry.{Entry}
 use Rattle.access_log.specs.History.{core_of_entry, of_core}
 use Rattle.access_record.specs.Restamped.{unstamped}
 use Rattle.access_record.specs.Turns as listed
-use Rattle.bound_core.proofs.Numbered.{other_first, own_first}
+use Rattle.reference.proofs.Numbered.{other_first, own_first}
 use Rattle.parts_table.specs.TurnOrder.{by_core, in_turns, left_after, next_of}
 use Rattle.parts_table.specs.declared.view.Made.{Made}
 

@@ -9,7 +9,7 @@ use Rattle.shard.specs.StandsFor.{AreAnswered}
 use Rattle.access_log.specs.History.{bank_of_entry, each_after}
 use Rattle.bound_core.specs.ShardPort.{AreShardsOf, base_in, size_in}
 use Rattle.bound_core.specs.ShardWorld.{restarted}
-use Rattle.bound_core.proofs.Numbered.{EachHolds, after_first, after_none, all_hold}
+use Rattle.reference.proofs.Numbered.{EachHolds, after_first, after_none, all_hold}
 use Rattle.bound_core.proofs.ShardPorts.{own_memory, shards_set}
 use Rattle.bound_core.proofs.ShardsStay.{one_has, one_stays}
 

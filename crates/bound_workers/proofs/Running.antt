@@ -20,8 +20,8 @@ use Rattle.bound_core.specs.NumberedCores.{NumberedCore}
 use Rattle.bound_core.specs.IntervalBounds.{latest_clock, most_accesses, most_left}
 use Rattle.rv_core.specs.Port.{Gains}
 use Rattle.bound_core.specs.Turn.{IsOver, RunsToEnd, TurnsToEnd}
-use Rattle.bound_core.proofs.Accesses.{latest_small}
-use Rattle.bound_core.proofs.Instructions.{ran_later}
+use Rattle.reference.proofs.Accesses.{latest_small}
+use Rattle.reference.proofs.Instructions.{ran_later}
 use Rattle.bound_records.specs.CoreRuns.{IsNear}
 use Rattle.bound_records.specs.declared.record_port.CoreRecord.{CoreRecord}
 use Rattle.bound_records.proofs.Turns.{in_memory}

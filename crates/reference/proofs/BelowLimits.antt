@@ -7,7 +7,7 @@ use Rattle.machine_desc.specs.declared.machine.Machine.{Machine}
 use Rattle.component.specs.declared.comp.Comp.{Comp}
 use Rattle.component.specs.ComponentStep.{free_of}
 use Rattle.stats.specs.Counts.{total_accesses}
-use Rattle.bound_core.specs.TimedCore.{TimedCore}
+use Rattle.reference.specs.TimedCore.{TimedCore}
 use Rattle.reference.specs.Limits.{access_limit, cycle_limit}
 use Rattle.reference.specs.ReferenceRun.{RunState, access_room, at_limit, has_ended, have_halted}
 

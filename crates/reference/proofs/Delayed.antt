@@ -5,8 +5,8 @@ use Rattle.std.proofs.lemmas.List.{length-map}
 use Rattle.std.proofs.lemmas.List.Elements.{All-cons, All-head, All-nil, All-tail}
 use Rattle.std.proofs.lemmas.List.FromFn.{length-enumerate_from}
 use Rattle.rv_core.specs.CoreState.{CoreState}
-use Rattle.bound_core.specs.TimedCore.{TimedCore, delayed}
-use Rattle.bound_core.specs.Turn.{IsOver}
+use Rattle.reference.specs.TimedCore.{TimedCore, delayed}
+use Rattle.reference.specs.Turn.{IsOver}
 use Rattle.reference.specs.ReferenceRun.{all_delayed}
 
 abbrev pub waited : (delays : List ℕ) → (from : ℕ) → List TimedCore → List TimedCore

@@ -13,9 +13,9 @@ use Rattle.elf_load.specs.MemoryImage.{MemoryImage}
 use Rattle.machine_desc.specs.declared.machine.Machine.{Machine}
 use Rattle.component.specs.declared.comp.Comp.{Comp}
 use Rattle.stats.specs.Counts.{Interval, total_accesses}
-use Rattle.bound_core.specs.MachineWorld.{MachineWorld, serve}
-use Rattle.bound_core.specs.ReferenceMachine.{BoundState, access_served, and_then, are_done, at_end, bound_from, legal_at, turn, turn_at}
-use Rattle.bound_core.specs.TimedCore.{TimedCore, asks, first_core, ran_to}
+use Rattle.reference.specs.MachineWorld.{MachineWorld, serve}
+use Rattle.reference.specs.ReferenceMachine.{BoundState, access_served, and_then, are_done, at_end, bound_from, legal_at, turn, turn_at}
+use Rattle.reference.specs.TimedCore.{TimedCore, asks, first_core, ran_to}
 use Rattle.access_log.specs.RecordedOrder.{recorded_order}
 use Rattle.reference.proofs.Recorded.{length_recorded}
 use Rattle.reference.specs.Laws.{FitsRun}

@@ -12,10 +12,10 @@ use Rattle.rv_core.specs.CoreState.{CoreState, Ending, InProgress, ToConsole, To
 use Rattle.rv_core.specs.Effect.{ended, goes_to}
 use Rattle.rv_core.specs.Step.{after_reply, answered, asks_for_instruction, is_free, is_latest, needs_fetch, unfetched}
 use Rattle.rv_core.proofs.Executes.{AwaitsNoFetch, IsOfNoFetch, executed-executes}
-use Rattle.bound_core.specs.MachineWorld.{MachineWorld, serve}
-use Rattle.bound_core.specs.ReferenceMachine.{BoundState, access_served, bound_from}
-use Rattle.bound_core.specs.TimedCore.{TimedCore, after_execution, after_instruction, asks, core_after_access, goes_on_alone, next_request, ran_to}
-use Rattle.bound_core.proofs.Instructions.{asks_or_executes, executed_later, executed_unfetched, late_stops, ran_late, ran_later, ran_stays}
+use Rattle.reference.specs.MachineWorld.{MachineWorld, serve}
+use Rattle.reference.specs.ReferenceMachine.{BoundState, access_served, bound_from}
+use Rattle.reference.specs.TimedCore.{TimedCore, after_execution, after_instruction, asks, core_after_access, goes_on_alone, next_request, ran_to}
+use Rattle.reference.proofs.Instructions.{asks_or_executes, executed_later, executed_unfetched, late_stops, ran_late, ran_later, ran_stays}
 
 -- a bound phase of one core
 abbrev pub one_core : TimedCore → MachineWorld → List Entry → BoundState MachineWorld

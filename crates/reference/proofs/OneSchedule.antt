@@ -11,9 +11,9 @@ use Rattle.component.specs.declared.comp.Comp.{Comp}
 use Rattle.component.specs.Components.{AreFresh}
 use Rattle.event_graph.specs.AccessPaths.{path_of}
 use Rattle.noc_mesh.specs.NetLaws.{net_time_at_least_one}
-use Rattle.bound_core.specs.MachineWorld.{MachineWorld, serve}
-use Rattle.bound_core.specs.ReferenceMachine.{BoundState, bound_from}
-use Rattle.bound_core.specs.TimedCore.{TimedCore, asks, core_after_access, first_core, ran_to}
+use Rattle.reference.specs.MachineWorld.{MachineWorld, serve}
+use Rattle.reference.specs.ReferenceMachine.{BoundState, bound_from}
+use Rattle.reference.specs.TimedCore.{TimedCore, asks, core_after_access, first_core, ran_to}
 use Rattle.access_log.specs.RecordedOrder.{recorded_order}
 use Rattle.reference.specs.ReferenceRun.{Illegal, IsRunOf, RunState, after_interval, after_intervals, after_weave, all_delayed, begun_interval, continued, end_of, first_state, has_ended, next_place, reference_run, results_at, run_results, time_of, world_of, woven_after, woven_interval}
 use Rattle.reference.specs.Results.{Results}

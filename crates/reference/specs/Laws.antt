@@ -3,7 +3,7 @@ use Rattle.std.specs.Prelude.{◌≡◌, ◌<◌, ◌≤◌, ℕ, List, All, len
 use Rattle.elf_load.specs.MemoryImage.{MemoryImage}
 use Rattle.machine_desc.specs.declared.machine.Machine.{Machine}
 use Rattle.machine_desc.specs.Machine.{IsMachine}
-use Rattle.bound_core.specs.SamePath.{IsWheneverItStarts}
+use Rattle.reference.specs.SamePath.{IsWheneverItStarts}
 use Rattle.reference.specs.ReferenceRun.{IsRunOf, time_of}
 use Rattle.reference.specs.Results.{Results}
 use Rattle.reference.specs.RunEvents.{IsEventsFileOf}

@@ -15,9 +15,9 @@ use Rattle.noc_mesh.specs.NetTiming.{net_pieces, net_time}
 use Rattle.feedback.specs.FeedbackDelay.{feedback_delays}
 use Rattle.stats.specs.Counts.{Interval, counts_of, total_accesses}
 use Rattle.reference.specs.Limits.{access_limit, cycle_limit}
-use Rattle.bound_core.specs.ReferenceMachine.{BoundState, bound_phase}
-use Rattle.bound_core.specs.TimedCore.{TimedCore, beside_cycles, delayed, first_core}
-use Rattle.bound_core.specs.MachineWorld.{MachineWorld, first_world, serve}
+use Rattle.reference.specs.ReferenceMachine.{BoundState, bound_phase}
+use Rattle.reference.specs.TimedCore.{TimedCore, beside_cycles, delayed, first_core}
+use Rattle.reference.specs.MachineWorld.{MachineWorld, first_world, serve}
 use Rattle.flat_memory.specs.FlatMemory.{MemoryState}
 use Rattle.shard.specs.Coherence.{Caches}
 use Rattle.access_log.specs.RecordedOrder.{no_stamps, recorded_order}

@@ -2,7 +2,7 @@
 use Rattle.std.specs.Prelude.{◌≡◌, ◌<◌, ◌≤◌, ℕ, Bool, List, length}
 use Rattle.machine_desc.specs.declared.machine.Machine.{Machine}
 use Rattle.machine_desc.specs.Components.{component_count}
-use Rattle.bound_core.specs.TimedCore.{TimedCore}
+use Rattle.reference.specs.TimedCore.{TimedCore}
 use Rattle.stats.specs.Counts.{Counts}
 use Rattle.reference.specs.Limits.{access_limit, event_limit}
 

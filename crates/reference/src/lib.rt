@@ -1,5 +1,6 @@
-//! The run of the machine of one thread under a schedule, as a definition, and what is true of every
-//! such run. There is no code that runs here: `run` and `replay` give what the definition says.
+//! The machine of one thread and its run under a schedule, as definitions, and what is true of them.
+//! There is no code that runs here: a core's turns are those of the machine (bound_core), and `run`
+//! and `replay` give what the definition of a run says.
 #![tactic(auto)]
 
 pub mod laws;

@@ -18,7 +18,7 @@ use Rattle.shard.specs.Laws.{StillServes}
 use Rattle.shard.specs.Served.{CanServe, ShardState, new_shard, resumed, shard_after}
 use Rattle.shard_table.specs.Access.{AreAllSeats, AreNewSeats, IsSameSeat, IsSeatOf, SeatState, TableState, restarted_shards}
 use Rattle.shard_table.specs.Lives.{MayAsk}
-use Rattle.bound_core.proofs.MoreServable.{more_servable}
+use Rattle.reference.proofs.MoreServable.{more_servable}
 use Rattle.table_tests.specs.Tested.{AreOf, IsAt, IsOf, IsTested}
 
 some_at : (xs : List ShardState) (i : ℕ) → i < length xs → (x : ShardState) × (slice_get xs i ≡ Some x)

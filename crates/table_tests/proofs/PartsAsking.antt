@@ -20,7 +20,7 @@ use Rattle.parts_table.specs.NextKeys.{number_of_keys}
 use Rattle.parts_table.specs.Places.{PlacesState}
 use Rattle.parts_table.specs.World.{MayAsk, world_of}
 use Rattle.parts_table.specs.declared.part.TimedPart.{TimedPart}
-use Rattle.bound_core.proofs.MoreServable.{more_servable}
+use Rattle.reference.proofs.MoreServable.{more_servable}
 use Rattle.table_tests.specs.PartsTested.{HasAll, IsOneShard, IsPartsTested, IsResting}
 
 pub new_is_one : (m : Machine) (image : MemoryImage) → m.cores ≡ 2 → m.l2.banks ≡ 1 → image.base ≡ 65536 → image.size ≡ 1048576 → IsOneShard (new_shards m image)

@@ -1,7 +1,7 @@
 //! What a core does by itself in an interval, one step at a time.
 ghost use Rattle.std.specs.Prelude.{◌≡◌, ◌+◌, ◌<◌, ◌≤◌, ◌^◌, max, false, IfNone, IfSome, IsTrue};
-ghost use Rattle.bound_core.specs.IntervalBounds.{latest_clock, most_accesses, steps_left};
-ghost use Rattle.bound_core.specs.TimedCore.{after_instruction, goes_on_alone};
+ghost use Rattle.reference.specs.IntervalBounds.{latest_clock, most_accesses, steps_left};
+ghost use Rattle.reference.specs.TimedCore.{after_instruction, goes_on_alone};
 
 use super::BoundCore;
 use rv_core::Program;

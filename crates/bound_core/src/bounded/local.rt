@@ -4,9 +4,9 @@ ghost use Rattle.zs_num.specs.Request.{line_at};
 ghost use Rattle.rv_core.specs.Single.{begun, begun_if, comes_to_next, met_by};
 ghost use Rattle.rv_core.specs.Sound.{IsSoundCore};
 ghost use Rattle.rv_core.specs.Step.{cost, is_free, is_latest, needs_fetch};
-ghost use Rattle.bound_core.specs.TimedCore.{after_instruction, goes_on_alone, ran_to};
-ghost use Rattle.bound_core.specs.Pacing.{IsSoon};
-ghost use Rattle.bound_core.specs.Ahead.{ahead, going};
+ghost use Rattle.reference.specs.TimedCore.{after_instruction, goes_on_alone, ran_to};
+ghost use Rattle.reference.specs.Pacing.{IsSoon};
+ghost use Rattle.reference.specs.Ahead.{ahead, going};
 ghost use Rattle.bound_core.specs.Met.{begun_in_time, met_count};
 
 use super::BoundCore;
@@ -404,7 +404,7 @@ impl BoundCore {
     /// The next step of a core with a pipeline: it asks for its next instruction, or executes it,
     /// counts it and lets it issue. The registers are read before it is executed.
     #[inline(always)]
-    #[tactic(auto, unfolding(crate::specs::TimedCore::after_instruction))]
+    #[tactic(auto, unfolding(reference::specs::TimedCore::after_instruction))]
     pub(super) fn step_paced<P: Program>(&mut self, program: &P)
         requires free { IsTrue (is_free self.old.timed.core) }
         requires clock { self.old.timed.clock ≤ 2 ^ 61 }
@@ -427,7 +427,7 @@ impl BoundCore {
 
     /// The next step of a core that fetches: it asks for its next instruction, or executes it and
     /// counts it.
-    #[tactic(auto, unfolding(crate::specs::TimedCore::after_instruction))]
+    #[tactic(auto, unfolding(reference::specs::TimedCore::after_instruction))]
     fn step_fetching<P: Program>(&mut self, program: &P)
         requires free { IsTrue (is_free self.old.timed.core) }
         requires fetching { IsTrue self.old.timed.core.fetching }
@@ -454,7 +454,7 @@ impl BoundCore {
     /// is seldom called, and stands apart, so that the loops and what serves accesses are one
     /// function.
     #[inline(never)]
-    #[tactic(auto, unfolding(crate::specs::TimedCore::after_instruction))]
+    #[tactic(auto, unfolding(reference::specs::TimedCore::after_instruction))]
     fn step<P: Program>(&mut self, program: &P, counted: &mut u64) -> Did
         requires free { IsTrue (is_free self.old.timed.core) }
         requires unfetched { self.old.timed.core.is_fetched ≡ false }

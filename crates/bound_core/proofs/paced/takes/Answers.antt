@@ -1,6 +1,6 @@
 use Rattle.std.proofs.Common.{◌∙◌, ap, sym}
 use Rattle.rv_core.specs.Effect.{register}
-use Rattle.bound_core.specs.TimedCore.{takes}
+use Rattle.reference.specs.TimedCore.{takes}
 use Rattle.bound_core.proofs.Branches.{not-taken}
 use Rattle.bound_core.proofs.paced.takes.Goals as goal
 

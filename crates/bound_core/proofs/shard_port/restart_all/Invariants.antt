@@ -1,7 +1,7 @@
 -- the shards before this one are restarted, and the others are as they were
 use Rattle.std.proofs.Common.{◌≡◌, ◌<◌, ◌≤◌, ℕ, get_or}
 use Rattle.shard.specs.Served.{no_shard}
-use Rattle.bound_core.specs.ShardWorld.{restarted}
+use Rattle.reference.specs.ShardWorld.{restarted}
 use Rattle.bound_core.proofs.shard_port.restart_all.Given as goal
 
 abbrev pub invariant-loop-shard : goal.invariant-loop-shard

@@ -5,7 +5,7 @@ use Rattle.std.proofs.lemmas.List.{length-set}
 use Rattle.std.proofs.lemmas.Option.{same_Some, slice_get-get_or}
 use Rattle.bound_core.specs.NumberedCores.{NumberedCore}
 use Rattle.bound_core.specs.Turn.{IsOver}
-use Rattle.bound_core.proofs.Lists.{get_set}
+use Rattle.reference.proofs.Lists.{get_set}
 use Rattle.bound_records.specs.Turns.{HaveTaken, TakesAccess, TakesNone, chosen, time_by_net}
 use Rattle.bound_records.proofs.TakingHits.{longer, one_longer}
 use Rattle.bound_records.proofs.TakingTurns.{one_ended, one_taken, turn_room}

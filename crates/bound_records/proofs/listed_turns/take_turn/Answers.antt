@@ -1,6 +1,6 @@
 use Rattle.std.proofs.Common.{◌-◌, ◌≤◌, length, min, refl, sym, ◌∙◌, ap, subst, arith}
 use Rattle.bound_core.specs.ShardPort.{base_of, l1i_of, room_of, size_of}
-use Rattle.bound_core.proofs.Accesses.{clock_within}
+use Rattle.reference.proofs.Accesses.{clock_within}
 use Rattle.weave_chains.specs.Listed.{list_of}
 use Rattle.bound_records.specs.Recorders.{TurnPortState}
 use Rattle.bound_records.specs.Turns.{TakesAccess, TakesNone, time_by_net}

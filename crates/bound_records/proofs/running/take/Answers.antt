@@ -1,6 +1,6 @@
 use Rattle.std.proofs.Common.{ℕ, ap, ◌∙◌}
 use Rattle.std.specs.Prelude.{slice_set}
-use Rattle.bound_core.proofs.Lists.{set_again}
+use Rattle.reference.proofs.Lists.{set_again}
 use Rattle.bound_records.proofs.running.take.Goals as goal
 
 pub returns-clause-logs : goal.returns-clause-logs

@@ -3,10 +3,10 @@ use Rattle.pipe_core.specs.Pace.{PaceState}
 use Rattle.pipe_core.specs.PaceLaws.{GoesOnFrom}
 use Rattle.rv_core.specs.Single.{begun}
 use Rattle.rv_core.specs.Sound.{IsSoundCore}
-use Rattle.bound_core.specs.Ahead.{ahead}
+use Rattle.reference.specs.Ahead.{ahead}
 use Rattle.bound_core.specs.NumberedCores.{NumberedCore}
-use Rattle.bound_core.specs.TimedCore.{TimedCore}
-use Rattle.bound_core.proofs.CoreKept.{CoreLaws}
+use Rattle.reference.specs.TimedCore.{TimedCore}
+use Rattle.reference.proofs.CoreKept.{CoreLaws}
 use Rattle.bound_core.proofs.Meeting.{begun_soundly}
 use Rattle.bound_core.proofs.bounded.BoundCore.comes_to.Goals as goal
 

@@ -2,11 +2,11 @@ use Rattle.std.proofs.Common.{◌≡◌, ◌+◌, ◌<◌, ◌≤◌, ℕ, true,
 use Rattle.std.specs.Prelude.{is_none, not, IfSome}
 use Rattle.pipe_core.specs.Pace.{PaceState}
 use Rattle.pipe_core.specs.PaceLaws.{GoesOnFrom}
-use Rattle.bound_core.specs.IntervalBounds.{latest_clock}
+use Rattle.reference.specs.IntervalBounds.{latest_clock}
 use Rattle.bound_core.specs.NumberedCores.{NumberedCore}
 use Rattle.bound_core.specs.Taken.{TakesThese}
-use Rattle.bound_core.specs.TimedCore.{TimedCore}
-use Rattle.bound_core.proofs.Accesses.{most_before}
+use Rattle.reference.specs.TimedCore.{TimedCore}
+use Rattle.reference.proofs.Accesses.{most_before}
 use Rattle.bound_core.proofs.HitTurns.{came_on, none_of}
 use Rattle.bound_core.proofs.MetBehindHits.{comes_next, some_early}
 use Rattle.bound_core.proofs.bounded.BoundCore.go_by_hits.Goals as goal

@@ -1,6 +1,6 @@
 use Rattle.std.proofs.Common.{arith}
 use Rattle.std.proofs.lemmas.Grind.{common_steps}
-use Rattle.bound_core.specs.TimedCore.{core_after_access}
+use Rattle.reference.specs.TimedCore.{core_after_access}
 use Rattle.bound_core.proofs.bounded.BoundCore.make.Goals as goal
 
 pub returns-clause-given : goal.returns-clause-given

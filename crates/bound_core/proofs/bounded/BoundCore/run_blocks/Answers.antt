@@ -3,10 +3,10 @@ use Rattle.rv_core.specs.declared.single.Single.{Single}
 use Rattle.rv_core.specs.CoreState.{CoreState}
 use Rattle.rv_core.specs.Executions.{LiesIn}
 use Rattle.rv_core.specs.Step.{is_free}
-use Rattle.bound_core.specs.Ahead.{ahead}
+use Rattle.reference.specs.Ahead.{ahead}
 use Rattle.bound_core.specs.Met.{begun_in_time, met_count}
 use Rattle.bound_core.specs.NumberedCores.{NumberedCore}
-use Rattle.bound_core.specs.TimedCore.{TimedCore, ran_to}
+use Rattle.reference.specs.TimedCore.{TimedCore, ran_to}
 use Rattle.bound_core.proofs.LedOn.{anywhere, led_and_met, met_fits}
 use Rattle.bound_core.proofs.bounded.BoundCore.run_blocks.Goals as goal
 

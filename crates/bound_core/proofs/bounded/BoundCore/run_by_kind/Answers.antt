@@ -1,7 +1,7 @@
 use Rattle.std.proofs.Common.{◌∙◌, ap, arith, sym}
-use Rattle.bound_core.specs.TimedCore.{TimedCore}
+use Rattle.reference.specs.TimedCore.{TimedCore}
 use Rattle.bound_core.specs.Met.{begun_in_time}
-use Rattle.bound_core.proofs.Instructions.{ran_later, ran_stays, ran_within}
+use Rattle.reference.proofs.Instructions.{ran_later, ran_stays, ran_within}
 use Rattle.bound_core.proofs.bounded.BoundCore.run_by_kind.Goals as goal
 
 pub returns-then-is_some-clause-begun : goal.returns-then-is_some-clause-begun

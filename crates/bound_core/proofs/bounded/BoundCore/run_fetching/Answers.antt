@@ -1,6 +1,6 @@
 use Rattle.std.proofs.Common.{◌∙◌, Some, sym}
 use Rattle.bound_core.specs.Met.{begun_in_time}
-use Rattle.bound_core.proofs.Instructions.{ran_stays}
+use Rattle.reference.proofs.Instructions.{ran_stays}
 use Rattle.bound_core.proofs.Meeting.{begun_stops}
 use Rattle.bound_core.proofs.bounded.BoundCore.run_fetching.Goals as goal
 

@@ -1,8 +1,8 @@
 use Rattle.std.proofs.Common.{◌≡◌, ◌∙◌, Option, None, ap, subst, arith, rules, true}
 use Rattle.rv_core.specs.declared.single.Single.{Single}
 use Rattle.rv_core.specs.Single.{comes_to_next, met_by}
-use Rattle.bound_core.specs.TimedCore.{ran_to}
-use Rattle.bound_core.specs.Ahead.{ahead, going}
+use Rattle.reference.specs.TimedCore.{ran_to}
+use Rattle.reference.specs.Ahead.{ahead, going}
 use Rattle.bound_core.specs.Met.{begun_in_time}
 use Rattle.bound_core.proofs.Meeting.{none_met}
 use Rattle.bound_core.proofs.bounded.BoundCore.run_in_blocks.Goals as goal

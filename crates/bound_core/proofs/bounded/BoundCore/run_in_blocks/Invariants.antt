@@ -2,8 +2,8 @@
 use Rattle.std.proofs.Common.{◌≡◌, ◌≤◌, ◌+◌, ◌-◌, ◌*◌, false, None}
 use Rattle.rv_core.specs.Single.{begun_if, comes_to_next, met_by}
 use Rattle.rv_core.specs.Step.{is_free}
-use Rattle.bound_core.specs.TimedCore.{ran_to}
-use Rattle.bound_core.specs.Ahead.{ahead, going}
+use Rattle.reference.specs.TimedCore.{ran_to}
+use Rattle.reference.specs.Ahead.{ahead, going}
 use Rattle.bound_core.specs.Met.{begun_in_time}
 use Rattle.bound_core.proofs.bounded.BoundCore.run_in_blocks.Given as goal
 

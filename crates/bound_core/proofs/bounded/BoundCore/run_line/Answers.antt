@@ -4,11 +4,11 @@ use Rattle.rv_core.specs.declared.single.Single.{Single}
 use Rattle.rv_core.specs.CoreState.{CoreState}
 use Rattle.rv_core.specs.Single.{begun_if, comes_to_next}
 use Rattle.rv_core.specs.Step.{is_free, is_latest}
-use Rattle.bound_core.specs.Ahead.{ahead, going}
+use Rattle.reference.specs.Ahead.{ahead, going}
 use Rattle.bound_core.specs.Met.{begun_in_time, met_count}
 use Rattle.bound_core.specs.NumberedCores.{NumberedCore}
-use Rattle.bound_core.specs.TimedCore.{TimedCore, ran_to}
-use Rattle.bound_core.proofs.Instructions.{going_small}
+use Rattle.reference.specs.TimedCore.{TimedCore, ran_to}
+use Rattle.reference.proofs.Instructions.{going_small}
 use Rattle.bound_core.proofs.LedOn.{in_line, led_and_met, met_fits}
 use Rattle.bound_core.proofs.Meeting.{comes_on}
 use Rattle.bound_core.proofs.bounded.BoundCore.run_line.Goals as goal

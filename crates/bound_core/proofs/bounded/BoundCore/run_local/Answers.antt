@@ -1,4 +1,4 @@
-use Rattle.bound_core.proofs.CoreKept.{CoreLaws}
+use Rattle.reference.proofs.CoreKept.{CoreLaws}
 use Rattle.bound_core.proofs.Meeting.{begun_soundly}
 use Rattle.bound_core.proofs.bounded.BoundCore.run_local.Goals as goal
 

@@ -2,10 +2,10 @@ use Rattle.std.proofs.Common.{◌≡◌, ◌<◌, ◌≤◌, ◌+◌, ◌∙◌,
 use Rattle.rv_core.specs.declared.single.Single.{Single}
 use Rattle.rv_core.specs.Single.{begun_if, comes_to_next, met_by}
 use Rattle.rv_core.specs.Step.{is_free}
-use Rattle.bound_core.specs.TimedCore.{TimedCore, after_instruction, ran_to}
-use Rattle.bound_core.specs.Ahead.{ahead, going}
+use Rattle.reference.specs.TimedCore.{TimedCore, after_instruction, ran_to}
+use Rattle.reference.specs.Ahead.{ahead, going}
 use Rattle.bound_core.specs.Met.{begun_in_time}
-use Rattle.bound_core.proofs.Instructions.{cycle_at_most, goes_on_by, nearer, same_end}
+use Rattle.reference.proofs.Instructions.{cycle_at_most, goes_on_by, nearer, same_end}
 use Rattle.bound_core.proofs.LedOn.{from_none_ahead}
 use Rattle.bound_core.proofs.Meeting.{none_met}
 use Rattle.bound_core.proofs.bounded.BoundCore.run_on.Goals as goal

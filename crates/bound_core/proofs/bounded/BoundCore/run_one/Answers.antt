@@ -1,8 +1,8 @@
 use Rattle.std.proofs.Common.{◌≤◌, ◌+◌, ◌-◌, ◌^◌, ◌∙◌, IsTrue, refl, sym, subst, arith, rules, max}
-use Rattle.bound_core.specs.IntervalBounds.{latest_clock, most_accesses}
+use Rattle.reference.specs.IntervalBounds.{latest_clock, most_accesses}
 use Rattle.bound_core.specs.Taken.{HasTaken}
-use Rattle.bound_core.specs.Turn.{RunsToEnd}
-use Rattle.bound_core.proofs.Accesses.{clock_within, latest_small, left_few, most_few}
+use Rattle.reference.specs.Turn.{RunsToEnd}
+use Rattle.reference.proofs.Accesses.{clock_within, latest_small, left_few, most_few}
 use Rattle.bound_core.proofs.Turns.{none_taken, taken_both, taken_to_end}
 use Rattle.bound_core.proofs.bounded.BoundCore.run_one.Goals as goal
 

@@ -1,6 +1,6 @@
 -- the turns so far, and room for those that are left
 use Rattle.std.proofs.Common.{◌≡◌, ◌≤◌, ◌+◌}
-use Rattle.bound_core.specs.IntervalBounds.{latest_clock, most_accesses}
+use Rattle.reference.specs.IntervalBounds.{latest_clock, most_accesses}
 use Rattle.bound_core.specs.Taken.{HasTaken}
 use Rattle.bound_core.proofs.bounded.BoundCore.run_one.Given as goal
 

@@ -1,6 +1,6 @@
 use Rattle.std.proofs.Common.{◌≡◌, ◌∙◌, ap, max, arith, rules, true, false, true≢false, sym}
-use Rattle.bound_core.specs.TimedCore.{goes_on_alone, ran_to}
-use Rattle.bound_core.proofs.Instructions.{nearer_alone, not_past, ran_stays, same_end}
+use Rattle.reference.specs.TimedCore.{goes_on_alone, ran_to}
+use Rattle.reference.proofs.Instructions.{nearer_alone, not_past, ran_stays, same_end}
 use Rattle.bound_core.proofs.bounded.BoundCore.run_paced.Goals as goal
 
 pub step_paced-requires-clause-clock : goal.step_paced-requires-clause-clock

@@ -1,8 +1,8 @@
 -- what is left to run leads to the same end
 use Rattle.std.proofs.Common.{◌≡◌, ◌≤◌, ◌+◌, ◌-◌, ◌*◌, IsTrue, max}
 use Rattle.rv_core.specs.Step.{is_free}
-use Rattle.bound_core.specs.TimedCore.{ran_to}
-use Rattle.bound_core.specs.Ahead.{going}
+use Rattle.reference.specs.TimedCore.{ran_to}
+use Rattle.reference.specs.Ahead.{going}
 use Rattle.bound_core.proofs.bounded.BoundCore.run_paced.Given as goal
 
 abbrev pub invariant-loop-self : goal.invariant-loop-self

@@ -2,10 +2,10 @@ use Rattle.std.proofs.Common.{◌≡◌, ◌≤◌, ◌<◌, ◌+◌, ◌∙◌,
 use Rattle.rv_core.specs.declared.single.Single.{Single}
 use Rattle.rv_core.specs.Single.{begun_if}
 use Rattle.rv_core.specs.Step.{is_free}
-use Rattle.bound_core.specs.Ahead.{going}
+use Rattle.reference.specs.Ahead.{going}
 use Rattle.bound_core.specs.Met.{begun_in_time}
-use Rattle.bound_core.specs.TimedCore.{TimedCore, after_instruction, goes_on_alone, ran_to}
-use Rattle.bound_core.proofs.Instructions.{IsWithin, goes_on_by, goes_on_fetched, nearer_fetching, next_within, same_end}
+use Rattle.reference.specs.TimedCore.{TimedCore, after_instruction, goes_on_alone, ran_to}
+use Rattle.reference.proofs.Instructions.{IsWithin, goes_on_by, goes_on_fetched, nearer_fetching, next_within, same_end}
 use Rattle.bound_core.proofs.bounded.BoundCore.run_past_line.Goals as goal
 use Rattle.bound_core.proofs.bounded.BoundCore.run_past_line.Goals.{then-is_fetched, else-is_fetched}
 

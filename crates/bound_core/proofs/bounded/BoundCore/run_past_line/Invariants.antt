@@ -2,8 +2,8 @@
 use Rattle.std.proofs.Common.{◌≡◌, ◌≤◌, ◌+◌, ◌-◌, ◌*◌, IsTrue, None, max}
 use Rattle.rv_core.specs.Single.{begun_if}
 use Rattle.rv_core.specs.Step.{is_free}
-use Rattle.bound_core.specs.TimedCore.{ran_to}
-use Rattle.bound_core.specs.Ahead.{going}
+use Rattle.reference.specs.TimedCore.{ran_to}
+use Rattle.reference.specs.Ahead.{going}
 use Rattle.bound_core.specs.Met.{begun_in_time}
 use Rattle.bound_core.proofs.bounded.BoundCore.run_past_line.Given as goal
 

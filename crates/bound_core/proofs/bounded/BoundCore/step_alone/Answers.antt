@@ -1,7 +1,7 @@
 use Rattle.std.proofs.Common.{◌≡◌, true, ap, arith, rules}
-use Rattle.bound_core.specs.TimedCore.{TimedCore, goes_on_alone}
+use Rattle.reference.specs.TimedCore.{TimedCore, goes_on_alone}
 use Rattle.bound_core.proofs.AloneSteps.{counts, step_no_more, step_not_later}
-use Rattle.bound_core.proofs.Instructions.{nearer_alone, not_earlier}
+use Rattle.reference.proofs.Instructions.{nearer_alone, not_earlier}
 use Rattle.bound_core.proofs.bounded.BoundCore.step_alone.Goals as goal
 
 pub overflow_sub-counted : goal.overflow_sub-counted

@@ -1,6 +1,6 @@
 use Rattle.std.proofs.Common.{ap, arith}
 use Rattle.bound_core.specs.NumberedCores.{NumberedCore}
-use Rattle.bound_core.proofs.Instructions.{paced_grows, paced_soon}
+use Rattle.reference.proofs.Instructions.{paced_grows, paced_soon}
 use Rattle.bound_core.proofs.bounded.BoundCore.step_paced.Goals as goal
 
 pub invariant_of-self : goal.invariant_of-self

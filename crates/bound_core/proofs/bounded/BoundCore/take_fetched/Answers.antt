@@ -1,6 +1,6 @@
 use Rattle.std.proofs.Common.{◌≡◌, ap, refl, subst, sym}
 use Rattle.bound_core.specs.NumberedCores.{NumberedCore}
-use Rattle.bound_core.specs.TimedCore.{TimedCore, ran_to}
+use Rattle.reference.specs.TimedCore.{TimedCore, ran_to}
 use Rattle.bound_core.proofs.FetchedNext.{fetched_is_next, taking}
 use Rattle.bound_core.proofs.bounded.BoundCore.take_fetched.Goals as goal
 

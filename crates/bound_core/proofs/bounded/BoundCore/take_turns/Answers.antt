@@ -1,5 +1,5 @@
 use Rattle.std.proofs.Common.{◌≡◌, ◌≤◌, ◌<◌, ◌+◌, ◌∙◌, ℕ, Bool, true, false, IsTrue, ap, arith, refl, subst, sym}
-use Rattle.bound_core.specs.IntervalBounds.{latest_clock, most_accesses}
+use Rattle.reference.specs.IntervalBounds.{latest_clock, most_accesses}
 use Rattle.bound_core.proofs.TheseTurns.{these_few, these_taken}
 use Rattle.bound_core.proofs.Turns.{all_taken, one_more}
 use Rattle.bound_core.proofs.bounded.BoundCore.take_turns.Goals as goal

@@ -1,12 +1,12 @@
 use Rattle.std.proofs.Common.{◌≡◌, ◌≤◌, ◌∙◌, IsTrue, Some, None, ap, arith, refl, rules, subst, sym}
 use Rattle.rv_core.specs.declared.memory_range.MemoryRange.{MemoryRange}
-use Rattle.bound_core.specs.TimedCore.{TimedCore, asks}
+use Rattle.reference.specs.TimedCore.{TimedCore, asks}
 use Rattle.bound_core.specs.Met.{begun_in_time}
-use Rattle.bound_core.specs.Turn.{IsOver}
-use Rattle.bound_core.specs.IntervalBounds.{latest_clock}
-use Rattle.bound_core.proofs.Accesses.{fewer, left_few, most_few, not_later, ran_not_later}
+use Rattle.reference.specs.Turn.{IsOver}
+use Rattle.reference.specs.IntervalBounds.{latest_clock}
+use Rattle.reference.proofs.Accesses.{fewer, left_few, most_few, not_later, ran_not_later}
 use Rattle.bound_core.proofs.Meeting.{none_asked}
-use Rattle.bound_core.proofs.MoreServable.{more_servable}
+use Rattle.reference.proofs.MoreServable.{more_servable}
 use Rattle.bound_core.proofs.Turns.{over_left, ran_locally, ran_over, starts_within, takes_access, took, MakesAccess}
 use Rattle.bound_core.proofs.bounded.BoundCore.turn.Goals as goal
 

@@ -3,7 +3,7 @@ use Rattle.std.specs.Prelude.{length, slice_index, slice_set}
 use Rattle.zs_num.specs.Request.{bank_of}
 use Rattle.zs_num.specs.Servable.{IsServable}
 use Rattle.bound_core.specs.ShardPort.{IsShardPort, ShardPortState, base_of, greatest_stamp, l1i_of, room_of, size_of}
-use Rattle.bound_core.specs.ShardWorld.{ShardWorld, shards_serve}
+use Rattle.reference.specs.ShardWorld.{ShardWorld, shards_serve}
 use Rattle.shard.specs.Served.{IsServedBy, ShardState, shard_after, shard_for}
 use Rattle.bound_core.proofs.PartsPorts.{gives, knows, last_is, port_after, same_memory}
 use Rattle.bound_core.proofs.ShardPorts.{at_most_greatest, can_serve, greatest_after, last_at_most, stamp_is}

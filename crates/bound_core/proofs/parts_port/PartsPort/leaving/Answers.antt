@@ -1,5 +1,5 @@
 use Rattle.bound_core.specs.ShardPort.{IsShardPort}
-use Rattle.bound_core.specs.ShardWorld.{ShardWorld}
+use Rattle.reference.specs.ShardWorld.{ShardWorld}
 use Rattle.bound_core.proofs.PartsPorts.{knows}
 use Rattle.bound_core.proofs.parts_port.PartsPort.leaving.Goals as goal
 

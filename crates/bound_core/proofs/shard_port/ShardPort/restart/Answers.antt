@@ -1,7 +1,7 @@
 use Rattle.std.proofs.Common.{rules, ◌≡◌, ◌∙◌, List, ap, length, map}
 use Rattle.std.proofs.lemmas.List.{length-map}
 use Rattle.shard.specs.Served.{ShardState}
-use Rattle.bound_core.specs.ShardWorld.{restarted}
+use Rattle.reference.specs.ShardWorld.{restarted}
 use Rattle.bound_core.proofs.AllShards.{whole_again}
 use Rattle.bound_core.proofs.ShardPorts.{port_restarted}
 use Rattle.bound_core.proofs.shard_port.ShardPort.restart.Goals as goal

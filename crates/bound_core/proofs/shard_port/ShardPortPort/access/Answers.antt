@@ -3,7 +3,7 @@ use Rattle.std.specs.Prelude.{slice_index, slice_set}
 use Rattle.zs_num.specs.Servable.{IsServable}
 use Rattle.zs_num.specs.declared.entry.Entry.{Entry}
 use Rattle.bound_core.specs.ShardPort.{IsShardAt, IsShardPort, ShardPortState, base_of, greatest_stamp, l1i_of, room_of, size_of}
-use Rattle.bound_core.specs.ShardWorld.{ShardWorld, shards_serve}
+use Rattle.reference.specs.ShardWorld.{ShardWorld, shards_serve}
 use Rattle.shard.specs.HaveL1i.{have_l1i}
 use Rattle.shard.specs.Served.{CanServe, IsServedBy, ShardState, shard_after, shard_for}
 use Rattle.bound_core.proofs.AllShards.{shard_at}

@@ -1,5 +1,0 @@
-use Rattle.bound_core.proofs.Phase.{all_over}
-use Rattle.bound_core.proofs.laws.ends_where_all_are_over.Goals as goal
-
-pub returns : goal.returns
-returns g c serve time image end s place over = all_over serve time image end s place over

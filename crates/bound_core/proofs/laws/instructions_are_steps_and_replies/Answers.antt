@@ -1,5 +1,0 @@
-use Rattle.bound_core.proofs.FetchedInstructions.{whole_steps}
-use Rattle.bound_core.proofs.laws.instructions_are_steps_and_replies.Goals as goal
-
-pub returns : goal.returns
-returns c number image inst s free here = whole_steps number image inst s free here

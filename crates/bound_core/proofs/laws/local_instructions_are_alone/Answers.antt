@@ -1,5 +1,0 @@
-use Rattle.bound_core.proofs.Phase.{local_alone}
-use Rattle.bound_core.proofs.laws.local_instructions_are_alone.Goals as goal
-
-pub returns : goal.returns
-returns g c serve time image end s number core place numbers here = local_alone serve time image end s number core place numbers here

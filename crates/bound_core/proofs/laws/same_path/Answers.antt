@@ -1,6 +1,0 @@
-use Rattle.std.proofs.Common.{refl}
-use Rattle.bound_core.proofs.SamePath.{no_faster, same_path}
-use Rattle.bound_core.proofs.laws.same_path.Goals as goal
-
-pub returns : goal.returns
-returns c = record { path = same_path; clocks = no_faster; times = λ path e. refl }
