@@ -14,6 +14,7 @@ use Rattle.access_record.specs.Laws.{beyond_hits, kept_of}
 use Rattle.access_record.specs.RecordLogs.{RecordLogState}
 use Rattle.access_record.specs.RecordedAccesses.{AreInOrder, AreRecordsOf}
 use Rattle.access_record.specs.Turns.{AreTurnsOf, IfListed, in_turns, taken_of}
+use Rattle.access_record.specs.Unordered.{CanBeOrdered, taken_by_turns}
 use Rattle.access_record.specs.declared.turns.Turns.{Turns}
 use Rattle.access_record.specs.declared.turns.Turns.TheVariants.{CoreByCore, Listed}
 use Rattle.stats.specs.declared.counts.CoreCount.{CoreCount}
@@ -23,7 +24,7 @@ use Rattle.reference.proofs.Lists.{get_set}
 use Rattle.weave_chains.specs.Listed.{list_of, one_after_other}
 use Rattle.bound_records.specs.Counted.{count_of}
 use Rattle.bound_records.specs.CoreRuns.{first_port}
-use Rattle.bound_records.specs.Recorders.{AreKeptOf, AreStampedInTurn, AreTakenIn, IsKeptOf, RecordPortState, RecorderState, counts_in, emptied, emptied_at, entries_of, kept_lists, no_log, no_records, taken_in}
+use Rattle.bound_records.specs.Recorders.{AreKeptOf, AreStampedInTurn, AreTakenBy, AreTakenIn, IsKeptOf, RecordPortState, RecorderState, counts_in, emptied, emptied_at, entries_of, kept_lists, no_log, no_records, taken_in}
 use Rattle.bound_records.proofs.Lists.{all_each, get_mapped, has_at, map_twice, mapped_all, mapped_at, set_cases}
 
 abbrev pub entries_by_log : List BankLogState → List (List Entry)
@@ -62,6 +63,13 @@ kept_eq kept core begin base room entries a b c d e =
     ∙ (ap (λ (n : ℕ). let x : RecordLogState = record { core = core; begin = begin; base = n; entries = kept.entries; room = kept.room } in x) c
     ∙ (ap (λ (es : List Entry). let x : RecordLogState = record { core = core; begin = begin; base = base; entries = es; room = kept.room } in x) d
     ∙ ap (λ (n : ℕ). let x : RecordLogState = record { core = core; begin = begin; base = base; entries = entries; room = n } in x) e)))
+
+-- one of the numbers from 0 on
+pub range_at : {X : Type 0} (f : ℕ → X) (n i : ℕ) (x : X) → slice_get (map f (range_with_len 0 n)) i ≡ Some x → x ≡ f i
+range_at f n i x here =
+    let within = slice_get_within (map f (range_with_len 0 n)) i x here in
+    let long = length-map-range_with_len f 0 n in
+    sym (get_or_from_slice_get (map f (range_with_len 0 n)) i x x here) ∙ get_or-map-range_with_len f 0 n i i x (omega (arith, within, long)) (omega arith)
 
 -- ---- what there is of a core
 
@@ -132,6 +140,25 @@ module _ (r : RecorderState) (banks : ℕ) (logs : List BankLogState) (records :
         named = subst (λ (es : List Entry). IfListed turns (λ cores. cores ≡ map (λ e. e.core) es)) (sym same) t.named;
       }
 
+  -- the order of its accesses can be told later
+  pub same_turns : (turns : List ℕ) → taken_by_turns turns logs ≡ in_turns turns r.lists
+  same_turns turns = ap (in_turns turns) (sym lists)
+
+  pub can_be_ordered : (turns : List ℕ) → AreTakenBy turns r → CanBeOrdered banks logs turns
+  can_be_ordered turns t =
+      let same : taken_by_turns turns logs ≡ in_turns turns r.lists = same_turns turns in
+      record {
+        some = k.some_banks;
+        banks_are = same_banks;
+        cores = k.few;
+        order = in_order;
+        known = subst (All (λ (e : Entry). e.core < length logs)) (sym same) (subst (λ (n : ℕ). All (λ (e : Entry). e.core < n) (in_turns turns r.lists)) lists_many t.stamped.known);
+        own = λ i log here. ap (of_core i) same ∙ t.stamped.own i log.entries (log_there i log here);
+        named = t.named ∙ ap (map (λ (e : Entry). e.core)) (sym same);
+        few = subst (λ (es : List Entry). length es < 2 ^ 32) (sym same) t.stamped.few;
+        stamped = subst (AreStamped banks (no_stamps banks (length logs))) (sym same) (stamped_in (in_turns turns r.lists) t.stamped);
+      }
+
   pub counts_are : counts ≡ counts_in r
   counts_are =
       mapped_all (λ log. count_of log.entries) logs counts k.counts_many
@@ -164,13 +191,11 @@ module _ (r : RecorderState) (banks : ℕ) (logs : List BankLogState) (records :
       ∙ (ap (λ (n : ℕ). map (kept_of n r.base) (beyond_hits a.0.entries)) (sym is.kept_begin)
       ∙ (ap (λ (n : ℕ). map (kept_of kept.begin n) (beyond_hits a.0.entries)) (sym is.kept_base) ∙ ap (map (kept_of kept.begin kept.base)) (sym is.kept_entries)))
 
-  -- an interval begins
-  pub begun_again : (begin : ℕ) (counts_after : List CoreCount) → length counts_after ≡ length counts → ((i : ℕ) (c : CoreCount) → slice_get counts_after i ≡ Some c → c ≡ no_core_count)
-      → (world : ShardWorld) → world ≡ begun_world (length r.world.stamps) (map restarted r.world.shards)
+  -- nothing is kept any more
+  pub emptied_all : (begin : ℕ) (counts_after : List CoreCount) → length counts_after ≡ length counts → ((i : ℕ) (c : CoreCount) → slice_get counts_after i ≡ Some c → c ≡ no_core_count)
+      → (world : ShardWorld) → length world.stamps ≡ length r.world.stamps → length world.shards ≡ length r.world.shards
       → AreKeptOf (record { world = world; lists = entries_by_log (map emptied logs); begin = begin; base = r.base; room = r.room }) banks (map emptied logs) (map (emptied_at begin) records) counts_after
-  begun_again begin counts_after as_many none world world_is =
-      let stamps : length world.stamps ≡ length r.world.stamps = ap (λ (w : ShardWorld). length w.stamps) world_is ∙ length-replicate (length r.world.stamps) 0 in
-      let shards : length world.shards ≡ length r.world.shards = ap (λ (w : ShardWorld). length w.shards) world_is ∙ length-map r.world.shards restarted in
+  emptied_all begin counts_after as_many none world stamps shards =
       let logs_many : length (map emptied logs) ≡ length logs = length-map logs emptied in
       let few = k.few in
       record {
@@ -199,6 +224,24 @@ module _ (r : RecorderState) (banks : ℕ) (logs : List BankLogState) (records :
               count_is = none i count counted ∙ sym (ap (λ (l : BankLogState). count_of l.entries) a.1.1);
             };
       }
+
+  -- an interval begins
+  pub begun_again : (begin : ℕ) (counts_after : List CoreCount) → length counts_after ≡ length counts → ((i : ℕ) (c : CoreCount) → slice_get counts_after i ≡ Some c → c ≡ no_core_count)
+      → (world : ShardWorld) → world ≡ begun_world (length r.world.stamps) (map restarted r.world.shards)
+      → AreKeptOf (record { world = world; lists = entries_by_log (map emptied logs); begin = begin; base = r.base; room = r.room }) banks (map emptied logs) (map (emptied_at begin) records) counts_after
+  begun_again begin counts_after as_many none world world_is =
+      emptied_all begin counts_after as_many none world
+      (ap (λ (w : ShardWorld). length w.stamps) world_is ∙ length-replicate (length r.world.stamps) 0)
+      (ap (λ (w : ShardWorld). length w.shards) world_is ∙ length-map r.world.shards restarted)
+
+  -- the logs of the same cores before their first access
+  pub empty_again : map (no_log banks r.room) (range_with_len 0 (length logs)) ≡ map emptied logs
+  empty_again =
+      mapped_all emptied logs (map (no_log banks r.room) (range_with_len 0 (length logs))) (length-map-range_with_len (no_log banks r.room) 0 (length logs))
+      (λ i log empty here there.
+      let f = found i log here in
+      range_at (no_log banks r.room) (length logs) i empty there
+      ∙ sym (log_eq (emptied log) i banks r.room [] f.is.log_core (f.is.log_banks ∙ sym k.banks_are) refl f.is.log_room))
 
   pub none_again : entries_by_log (map emptied logs) ≡ replicate (length r.lists) []
   none_again = none_of logs ∙ ap (λ (n : ℕ). replicate n []) (sym lists_many)
@@ -328,12 +371,6 @@ put_in r core logs log entries world now lists own same =
     ∙ ap (λ (w : ShardWorld). let q : RecorderState = record r { world = w; lists = slice_set r.lists core entries } in q) same))
 
 -- ---- before the first interval
-
-pub range_at : {X : Type 0} (f : ℕ → X) (n i : ℕ) (x : X) → slice_get (map f (range_with_len 0 n)) i ≡ Some x → x ≡ f i
-range_at f n i x here =
-    let within = slice_get_within (map f (range_with_len 0 n)) i x here in
-    let long = length-map-range_with_len f 0 n in
-    sym (get_or_from_slice_get (map f (range_with_len 0 n)) i x x here) ∙ get_or-map-range_with_len f 0 n i i x (omega (arith, within, long)) (omega arith)
 
 none_in_range : (banks room from n : ℕ) → entries_by_log (map (no_log banks room) (range_with_len from n)) ≡ replicate n []
 none_in_range banks room from zero = refl

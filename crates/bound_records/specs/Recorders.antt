@@ -1,5 +1,5 @@
 -- What is kept of the accesses of an interval, core by core.
-use Rattle.std.specs.Prelude.{◌≡◌, ℕ, ◌+◌, ◌<◌, ◌≤◌, ◌^◌, List, [], ◌∷◌, ◌++◌, All, length, map, slice_get, slice_set, Some}
+use Rattle.std.specs.Prelude.{◌≡◌, ℕ, ◌+◌, ◌<◌, ◌≤◌, ◌^◌, List, [], ◌∷◌, ◌++◌, All, length, map, replicate, slice_get, slice_set, Some}
 use Rattle.zs_num.specs.declared.entry.Entry.{Entry}
 use Rattle.zs_num.specs.declared.request.Request.{Request}
 use Rattle.zs_num.specs.Servable.{IsServable}
@@ -79,6 +79,15 @@ taken_in (Listed turns) r = in_turns turns.now r.lists
 pub record AreTakenIn (turns : Turns) (r : RecorderState) : Type 0 where
   pub stamped : AreStampedInTurn (taken_in turns r) r
   pub named : IfListed turns (λ cores. cores ≡ map (λ e. e.core) (taken_in turns r))
+
+-- the turns of a list took its accesses, and the list names their cores
+pub record AreTakenBy (turns : List ℕ) (r : RecorderState) : Type 0 where
+  pub stamped : AreStampedInTurn (in_turns turns r.lists) r
+  pub named : turns ≡ map (λ e. e.core) (in_turns turns r.lists)
+
+-- without its accesses
+abbrev pub without_accesses : RecorderState → RecorderState
+without_accesses r = record r { lists = replicate (length r.lists) []; begin = 0 }
 
 -- ---- what stands for it
 

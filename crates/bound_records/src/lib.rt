@@ -16,5 +16,5 @@ mod turns_fail;
 pub use apart::RecorderParts;
 pub use own_program::OwnProgram;
 pub use record_port::{CoreRecord, keep};
-pub use recorder::Recorder;
+pub use recorder::{Recorder, reserve_all};
 pub use turns_fail::TurnsFail;

@@ -1,11 +1,12 @@
 //! Caches and memory that one worker has, and what it keeps of the accesses of an interval.
-ghost use Rattle.std.specs.Prelude.{◌≡◌, ◌+◌, ◌*◌, ◌<◌, ◌≤◌, ◌^◌, ℕ, [], All, Err, Some, length, map, replicate, slice_get, IfErr, IfOk, OnOk};
+ghost use Rattle.std.specs.Prelude.{◌≡◌, ◌+◌, ◌*◌, ◌<◌, ◌≤◌, ◌^◌, ℕ, [], All, Err, Some, length, map, replicate, slice_get, IfErr, IfOk, IsTrue, OnOk};
 ghost use Rattle.std.specs.List.{range_with_len};
 ghost use Rattle.machine_desc.specs.Machine.{IsMachine};
 ghost use Rattle.shard.specs.StandsFor.{new_shards};
 ghost use Rattle.access_log.specs.RecordedOrder.{recorded_order};
 ghost use Rattle.access_record.specs.BankLogs.{entries_in};
 ghost use Rattle.access_record.specs.Turns.{in_turns};
+ghost use Rattle.access_record.specs.Unordered.{order_of};
 ghost use Rattle.bound_core.specs.History.{begun_over_shards};
 ghost use Rattle.bound_core.specs.NumberedCores.{NumberedCore, timed_of};
 ghost use Rattle.bound_core.specs.ReferenceMachine.{bound_phase};
@@ -14,13 +15,15 @@ ghost use Rattle.bound_core.specs.ShardWorld.{begun_world, restarted, shards_ser
 ghost use Rattle.bound_core.specs.TimedCore.{beside_cycles};
 ghost use Rattle.bound_records.specs.CoreRuns.{AreNumbered, IsNetOf, access_time_of};
 ghost use Rattle.bound_records.specs.Intervals.{AreKept, CanAllRun, HaveRun, IfIllegalTurn};
-ghost use Rattle.bound_records.specs.Recorders.{AreTakenIn, IsRecorderFor, counts_in, emptied, emptied_at, entries_of, no_log, no_records, recorded_kept, uncounted};
+ghost use Rattle.bound_records.specs.Recorders.{AreTakenBy, AreTakenIn, IsRecorderFor, counts_in, emptied, emptied_at, entries_of, no_log, no_records, recorded_kept, uncounted, without_accesses};
 
 use crate::TurnsFail;
 use crate::listed_turns::take_turns;
 use crate::running::run_cores;
 use crate::turn_port::TurnPort;
-use access_record::{BankLog, OrderBuffers, RecordLog, Turns, recorded_accesses, recorded_cores};
+use access_record::{
+    BankLog, OrderBuffers, RecordLog, Turns, Unordered, recorded_accesses, recorded_cores,
+};
 use bound_core::{BESIDE_CYCLES, BoundCore, PartsPort};
 use elf_load::Image;
 use machine_desc::Machine;
@@ -30,6 +33,7 @@ use shard::Parts;
 use stats::CoreCount;
 use std::alloc::Global;
 use std::marker::Model;
+use std::mem;
 use zs_host::Gate;
 use zs_num::{Cycle, Entry, NoMemory};
 
@@ -76,7 +80,7 @@ impl Recorder {
         Ok(Recorder {
             port,
             banks: machine.l2.banks,
-            logs: empty_logs(alloc, machine, room)?,
+            logs: empty_logs(alloc, machine.cores, machine.l2.banks, room)?,
             records: empty_records(alloc, machine, room)?,
             counts: vec![in alloc; NO_COUNT; usize::from(machine.cores)]?,
             begin: 0,
@@ -213,6 +217,31 @@ impl Recorder {
         recorded_cores(alloc, &self.logs, turns, self.banks, buffers)
     }
 
+    /// Gives the accesses of the interval away, while their recorded order is still to be told, and
+    /// then has none. These are the turns by which they were made. It keeps the memory of these logs,
+    /// if they are for as many cores, banks and accesses, and else takes new memory.
+    pub fn put_aside(
+        &mut self,
+        alloc: Global,
+        turns: Vec<u16>,
+        spare: Vec<BankLog>,
+    ) -> Result<Unordered, NoMemory>
+        requires few { length self.old.world.shards ≤ 64 }
+        requires turns { AreTakenBy turns.items self.old }
+        ensures order { IfOk result (λ u. order_of u ≡ map (λ e. e.core) (recorded_order (entries_of self.old))) }
+        ensures none { OnOk result (self.new ≡ without_accesses self.old) }
+    {
+        access_log::laws::stamps_rise();
+        access_log::laws::cores_decide_the_order();
+        let cores = self.logs.len() as u16;
+        let spare = spare_logs(alloc, spare, cores, self.banks, self.room)?;
+        let logs = mem::replace(&mut self.logs, spare);
+        begin_records(&mut self.records, 0);
+        clear_counts(&mut self.counts);
+        self.begin = 0;
+        Ok(Unordered::of(logs, turns, self.banks))
+    }
+
     /// The accesses that make events, in recorded order, as their records give them back. These are
     /// the turns by which they were made, and the cores of all accesses in recorded order.
     pub fn recorded_accesses(
@@ -254,16 +283,53 @@ fn new_port(alloc: Global, machine: &Machine, image: &Image) -> Result<PartsPort
     }
 }
 
-/// The log of each core before its first access.
-fn empty_logs(alloc: Global, machine: &Machine, room: u32) -> Result<Vec<BankLog>, NoMemory>
-    requires { IsMachine machine.now }
-    ensures { IfOk result (λ logs. logs.items ≡ map (no_log machine.now.l2.banks room) (range_with_len 0 machine.now.cores)) }
+/// The log of each core before its first access, where there are so many cores and banks.
+fn empty_logs(alloc: Global, cores: u16, banks: u16, room: u32) -> Result<Vec<BankLog>, NoMemory>
+    requires some { 0 < banks }
+    requires few { banks ≤ 64 }
+    ensures { IfOk result (λ logs. logs.items ≡ map (no_log banks room) (range_with_len 0 cores)) }
 {
     let mut logs = Vec::new(alloc);
-    for core in 0..machine.cores {
-        logs.push(BankLog::with_room(alloc, core, machine.l2.banks, room)?)?;
+    for core in 0..cores {
+        logs.push(BankLog::with_room(alloc, core, banks, room)?)?;
     }
     Ok(logs)
+}
+
+/// The same in the memory of these logs, if they are for so many cores and banks, and so much room.
+fn spare_logs(
+    alloc: Global,
+    mut spare: Vec<BankLog>,
+    cores: u16,
+    banks: u16,
+    room: u32,
+) -> Result<Vec<BankLog>, NoMemory>
+    requires some { 0 < banks }
+    requires few { banks ≤ 64 }
+    ensures { IfOk result (λ logs. logs.items ≡ map (no_log banks room) (range_with_len 0 cores)) }
+{
+    if are_for(&spare, cores, banks, room) {
+        clear_logs(&mut spare);
+        Ok(spare)
+    } else {
+        empty_logs(alloc, cores, banks, room)
+    }
+}
+
+/// Whether they are the logs of so many cores and banks, in order, each with so much room.
+fn are_for(logs: &[BankLog], cores: u16, banks: u16, room: u32) -> bool
+    ensures { IsTrue result → map emptied logs.now ≡ map (no_log banks room) (range_with_len 0 cores) }
+{
+    if logs.len() != usize::from(cores) {
+        return false;
+    }
+    for core in 0..cores {
+        let log = &logs[usize::from(core)];
+        if log.core() != core || log.banks() != banks || log.room() != room {
+            return false;
+        }
+    }
+    true
 }
 
 /// The records of each core before its first access.
@@ -280,7 +346,7 @@ fn empty_records(alloc: Global, machine: &Machine, room: u32) -> Result<Vec<Reco
 }
 
 /// Gives each core room on its console for what it can write in an interval.
-fn reserve_all(machine: &Machine, cores: &mut [BoundCore]) -> Result<(), NoMemory>
+pub fn reserve_all(machine: &Machine, cores: &mut [BoundCore]) -> Result<(), NoMemory>
     requires { IsMachine machine.now }
     ensures timed { OnOk result (timed_of cores.new ≡ timed_of cores.old) }
     ensures numbered { OnOk result (AreNumbered cores.old → AreNumbered cores.new) }

@@ -14,3 +14,4 @@ mod BoundSeats
 mod BoundServed
 mod BoundTurns
 mod Sending
+mod OfOneKind

@@ -3,7 +3,7 @@ use denote.Ref.{NamedLft, ShrRef}
 use denote.RattleType.{RattleType}
 use denote.Hole.{as_row}
 use denote.Param.Send.{IsSend, IsSync, sendable, shr_send}
-use denote.Param.SendFields.{as_row_send, declared_send}
+use denote.Param.SendFields.{as_row_send, declared_send, variants_send}
 use denote.Struct.Field.{row_field, shr_ref_field, u16-field, u64-field}
 use Rattle.std.proofs.Crossing as std
 use Rattle.std.specs.contracts.alloc.Global as heap
@@ -24,9 +24,14 @@ use Rattle.parts_table.proofs.table.PartsTable.TheSendSync as tables
 use Rattle.parts_table.specs.contracts.table.PartsTable as table
 use Rattle.rv_blocks.proofs.decoded_program.DecodedProgram.TheSendSync as programs
 use Rattle.rv_blocks.specs.contracts.decoded_program.DecodedProgram as program
+use Rattle.access_record.proofs.buffers.OrderBuffers.TheSendSync as buffers
+use Rattle.access_record.proofs.unordered.Unordered.TheSendSync as unordered
+use Rattle.access_record.specs.contracts.unordered.Unordered as accesses
 use Rattle.bound_workers.specs.contracts.member.Member as member
+use Rattle.bound_workers.specs.contracts.ordering.Ordering as ordering
 use Rattle.bound_workers.specs.contracts.share.Share as share
 use Rattle.bound_workers.specs.contracts.team.Team as team
+use Rattle.bound_workers.specs.contracts.work.Work as work
 
 table_send : IsSend (as_row (arc.the_field table.the_row heap.the_row ghosts))
 table_send = as_row_send (arc.the_field table.the_row heap.the_row ghosts) (std.Arc-send table.the_row tables.the_send tables.the_sync)
@@ -45,6 +50,13 @@ number_send = search (sendable, std.crosses) depth 20
 
 worker_send : IsSend (as_row u16-field)
 worker_send = search (sendable, std.crosses) depth 20
+
+ordering_send : IsSend ordering.the_row
+ordering_send =
+    declared_send ordering.the_type (
+      search (sendable, std.crosses) depth 20,
+      (unordered.the_send, (buffers.the_send, (search (sendable, std.crosses) depth 20, tt))),
+    )
 
 module _ (ℓ : NamedLft) where
   program_send : IsSend (as_row (shr_ref_field ℓ (program.the_row ℓ) (tt {0})))
@@ -66,3 +78,6 @@ module _ (ℓ : NamedLft) where
             (table_send, (program_send, (net_send, (memory_send, (number_send, (worker_send, (team_send, tt))))))),
           ),
         )
+
+    pub work_send : IsSend (work.the_row ℓ R G)
+    work_send = variants_send (work.enum ℓ R G) ((share_send, tt), ((ordering_send, tt), tt))

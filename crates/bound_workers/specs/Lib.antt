@@ -4,3 +4,5 @@ pub mod Member
 pub mod Team
 pub mod Shares
 pub mod Intervals
+pub mod Orderings
+pub mod Works

@@ -17,8 +17,8 @@ ghost use Rattle.bound_workers.specs.Shares.{AreEmpty, HaveReturned, mates};
 
 use crate::buffers::{Tools, WorkBuffers};
 use crate::hiring::{hire, let_go};
-use crate::share::Share;
 use crate::team::Team;
+use crate::work::Work;
 use crate::working::work_all;
 use bound_core::{BESIDE_CYCLES, BoundCore, PartsPort};
 use bound_records::{CoreRecord, Recorder, RecorderParts};
@@ -47,8 +47,8 @@ pub fn bound_by<'a, R: Wait + Sync, G: Gate>(
     end: Cycle,
     workers: u16,
     gate: &'a G,
-    posts: &[Post<Share<'a, R, G>>],
-    askers: &mut [Asker<Share<'a, R, G>>],
+    posts: &[Post<Work<'a, R, G>>],
+    askers: &mut [Asker<Work<'a, R, G>>],
     mut cores: Vec<BoundCore>,
     recorder: Recorder,
     buffers: &mut WorkBuffers,
@@ -184,8 +184,8 @@ fn run_teams<'a, R: Wait + Sync, G: Gate>(
     rt: &'a R,
     alloc: Global,
     gate: &'a G,
-    posts: &[Post<Share<'a, R, G>>],
-    askers: &mut [Asker<Share<'a, R, G>>],
+    posts: &[Post<Work<'a, R, G>>],
+    askers: &mut [Asker<Work<'a, R, G>>],
     table: &Arc<PartsTable>,
     program: &'a DecodedProgram<'a>,
     net: &'a Net,

@@ -8,12 +8,15 @@ mod gated_port;
 mod hiring;
 mod interval;
 mod member;
+mod ordering;
 mod share;
 mod table_port;
 mod team;
 mod way;
+mod work;
 mod working;
 
 pub use buffers::WorkBuffers;
 pub use interval::bound_by;
-pub use share::Share;
+pub use ordering::{Ordering, tell_all};
+pub use work::Work;

@@ -3,11 +3,15 @@ ghost use Rattle.std.specs.Prelude.{◌≡◌, ◌+◌, ◌<◌, ◌≤◌, ℕ,
 ghost use Rattle.std.specs.Arc.{arc_value};
 ghost use Rattle.noc_mesh.specs.NetTiming.{net_time};
 ghost use Rattle.crew.specs.Crews.{free_seats};
+ghost use Rattle.crew.specs.Sharing.{AreDone};
 ghost use Rattle.bound_workers.specs.Team.{CanWork, HasWorked};
+ghost use Rattle.bound_workers.specs.Works.{AreCores, CanShare, HasShared};
 ghost use Rattle.bound_workers.specs.declared.team.Team.{Team};
+ghost use Rattle.bound_workers.specs.declared.work.Work.TheVariants.{Cores};
 
 use crate::share::Share;
 use crate::team::Team;
+use crate::work::Work;
 use crew::{Asker, Post, do_all};
 use machine_desc::Memory;
 use noc_mesh::Net;
@@ -24,8 +28,8 @@ pub(crate) fn work_all<'a, R: Wait + Sync, G: Gate>(
     rt: &'a R,
     alloc: Global,
     gate: &'a G,
-    posts: &[Post<Share<'a, R, G>>],
-    askers: &mut [Asker<Share<'a, R, G>>],
+    posts: &[Post<Work<'a, R, G>>],
+    askers: &mut [Asker<Work<'a, R, G>>],
     table: &Arc<PartsTable>,
     program: &'a DecodedProgram<'a>,
     net: &'a Net,
@@ -41,10 +45,63 @@ pub(crate) fn work_all<'a, R: Wait + Sync, G: Gate>(
     ensures worked { OnOk result ((i : ℕ) (d : Team) → i < vec_len teams.old
         → HasWorked (λ e. net_time net.now.path e) program.now end (arc_value table.now) (slice_index_or teams.old.items i d) (slice_index_or teams.new.items i d)) }
 {
-    let mut shares = shares_of(rt, alloc, gate, table, program, net, memory, end, teams)?;
-    do_all(rt, posts, askers, &mut shares);
-    take_teams(shares, teams);
+    let shares = shares_of(rt, alloc, gate, table, program, net, memory, end, teams)?;
+    let done = do_shares(rt, alloc, posts, askers, shares)?;
+    take_teams(done, teams);
     Ok(())
+}
+
+/// All workers do their shares.
+fn do_shares<'a, R: Wait + Sync, G: Gate>(
+    rt: &R,
+    alloc: Global,
+    posts: &[Post<Work<'a, R, G>>],
+    askers: &mut [Asker<Work<'a, R, G>>],
+    shares: Vec<Share<'a, R, G>>,
+) -> Result<Vec<Share<'a, R, G>>, NoMemory>
+    requires askers { askers.old ≡ free_seats posts.now }
+    requires few { vec_len shares ≤ length posts.now + 1 }
+    requires can { All (λ s. CanShare s) shares.items }
+    ensures askers { askers.new ≡ askers.old }
+    ensures done { IfOk result (λ done. AreDone (λ s t. HasShared s t) shares.entry.items done.items) }
+{
+    let mut spare = Vec::with_capacity(alloc, shares.len())?;
+    let mut jobs = jobs_of(alloc, shares)?;
+    do_all(rt, posts, askers, &mut jobs);
+    take_shares(jobs, &mut spare);
+    Ok(spare)
+}
+
+/// Each share as what a worker is asked for.
+fn jobs_of<'a, R: Wait + Sync, G: Gate>(
+    alloc: Global,
+    mut shares: Vec<Share<'a, R, G>>,
+) -> Result<Vec<Work<'a, R, G>>, NoMemory>
+    ensures { IfOk result (λ jobs. jobs.items ≡ map (λ s. Cores s) shares.entry.items) }
+{
+    let mut jobs = Vec::with_capacity(alloc, shares.len())?;
+    while !shares.is_empty() {
+        jobs.push_reserved(Work::Cores(shares.remove(0)));
+    }
+    Ok(jobs)
+}
+
+/// Takes the shares out, for which there is room.
+fn take_shares<'a, R: Wait + Sync, G: Gate>(
+    mut jobs: Vec<Work<'a, R, G>>,
+    shares: &mut Vec<Share<'a, R, G>>,
+)
+    requires shares { All (λ w. AreCores w) jobs.items }
+    requires none { shares.old.items ≡ [] }
+    requires room { vec_len jobs ≤ vec_capacity shares.old }
+    ensures { map (λ s. Cores s) shares.new.items ≡ jobs.entry.items }
+{
+    while !jobs.is_empty() {
+        let Work::Cores(share) = jobs.remove(0) else {
+            unreachable!()
+        };
+        shares.push_reserved(share);
+    }
 }
 
 /// A share for each worker, which takes its cores.

@@ -12,3 +12,5 @@ pub mod RecordedFacts
 pub mod RecordedPhase
 pub mod RecordedWeave
 pub mod SoundWeave
+mod FirstParts
+mod Handed

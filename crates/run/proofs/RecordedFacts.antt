@@ -21,9 +21,9 @@ use Rattle.access_record.specs.declared.turns.Turns.TheVariants.{CoreByCore, Lis
 use Rattle.bound_records.specs.Recorders.{AreStampedInTurn, AreTakenIn, RecorderState, entries_of}
 use Rattle.run.specs.declared.simulation.Simulation.{Simulation}
 use Rattle.run.specs.IntervalWeave.{IntervalsAreWoven, IsSoundWeave}
-use Rattle.run.specs.Records.{FitsIn, accesses_in, recorded_interval}
+use Rattle.run.specs.Records.{FitsIn, accesses_in, recorded_interval, taken_by}
 use Rattle.reference.specs.ReferenceRun.{RunState, access_room, all_delayed, time_of, woven_interval}
-use Rattle.run.specs.Simulation.{HasNextInterval, HasRecorded, HasRoomForInterval, IsBoundPhase, LeadsTo, cores_of, listed, taken_by}
+use Rattle.run.specs.Simulation.{HasNextInterval, HasRecorded, HasRoomForInterval, IsBoundPhase, LeadsTo, cores_of, listed}
 use Rattle.run.proofs.GoneOn.{small_room, woven_entries}
 use Rattle.run.proofs.NextInterval.{Laws, fits_more, has_room, leads_on}
 use Rattle.run.proofs.RecordedOrder.{all_recorded}

@@ -3,3 +3,4 @@ pub mod Recording
 pub mod Records
 pub mod Simulation
 pub mod Going
+pub mod Waiting

@@ -1,5 +1,5 @@
 -- The weave of an interval whose accesses are recorded.
-use Rattle.std.specs.Prelude.{◌≡◌, ℕ, ◌^◌, ◌<◌, ◌≤◌, List, length, slice_get, Some}
+use Rattle.std.specs.Prelude.{◌≡◌, ℕ, ◌^◌, ◌<◌, ◌≤◌, List, Option, None, Some, IfSome, length, map, slice_get}
 use Rattle.std.specs.List.{All}
 use Rattle.zs_num.specs.declared.entry.Entry.{Entry}
 use Rattle.machine_desc.specs.declared.machine.Machine.{Machine}
@@ -9,16 +9,22 @@ use Rattle.component.specs.ComponentStep.{comp_step}
 use Rattle.event_graph.specs.OneListWeave.{comps_after}
 use Rattle.access_log.specs.History.{of_core}
 use Rattle.access_log.specs.RecordedOrder.{recorded_order}
+use Rattle.access_record.specs.Turns.{in_turns}
 use Rattle.stats.specs.Added.{added}
 use Rattle.stats.specs.Counts.{Counts, Interval}
 use Rattle.stats.specs.CountsFit.{CountsFit}
 use Rattle.bound_records.specs.Intervals.{AreKept}
-use Rattle.bound_records.specs.Recorders.{RecorderState, entries_of}
+use Rattle.bound_records.specs.Recorders.{AreStampedInTurn, RecorderState, entries_of}
 use Rattle.reference.specs.ReferenceRun.{access_room, woven_interval}
 
 -- its accesses, in recorded order
 abbrev pub accesses_in : RecorderState → List Entry
 accesses_in r = recorded_order (entries_of r)
+
+-- the accesses in the order of a list of turns, or core by core where there is none
+abbrev pub taken_by : Option (List ℕ) → RecorderState → List Entry
+taken_by None r = entries_of r
+taken_by (Some turns) r = in_turns turns r.lists
 
 -- the interval, which is woven from these components on
 abbrev pub recorded_interval : Machine → List Comp → RecorderState → Interval
@@ -45,3 +51,15 @@ pub record FitsIn (i : Interval) (machine : Machine) (comps : List Comp) (counts
   pub core_counts : length counts.core_counts ≡ machine.cores
   pub comp_counts : length counts.comp_counts ≡ component_count machine
   pub fits : CountsFit (added counts i (comps_after comp_step i.events comps))
+
+-- the accesses were made by the turns of a list, which names their cores, or core by core where there is none
+pub record AreTakenSo (turns : Option (List ℕ)) (r : RecorderState) : Type 0 where
+  pub stamped : AreStampedInTurn (taken_by turns r) r
+  pub named : IfSome turns (λ cores. cores ≡ map (λ e. e.core) (taken_by turns r))
+
+-- caches and memory are as they were
+pub record IsSameButAccesses (before after : RecorderState) : Type 0 where
+  pub world : after.world ≡ before.world
+  pub lists : length after.lists ≡ length before.lists
+  pub base : after.base ≡ before.base
+  pub room : after.room ≡ before.room

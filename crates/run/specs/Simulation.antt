@@ -20,13 +20,12 @@ use Rattle.access_log.specs.RecordedOrder.{recorded_order}
 use Rattle.stats.specs.Counts.{counts_of, total_accesses, total_events}
 use Rattle.stats.specs.Laws.{WasRun}
 use Rattle.bound_records.specs.CoreRuns.{AreNumbered, CanRunInterval}
-use Rattle.access_record.specs.Turns.{in_turns}
 use Rattle.access_record.specs.declared.turns.Turns.{Turns}
 use Rattle.access_record.specs.declared.turns.Turns.TheVariants.{CoreByCore, Listed}
 use Rattle.bound_records.specs.Recorders.{AreStampedInTurn, IsRecorderFor, RecorderState, entries_of}
 use Rattle.run.specs.declared.recording.Recording.{Recording}
 use Rattle.run.specs.declared.simulation.Simulation.{Simulation}
-use Rattle.run.specs.Records.{IsRecorded, accesses_in}
+use Rattle.run.specs.Records.{IsRecorded, accesses_in, taken_by}
 use Rattle.run.specs.Recording.{IsRecordingOf}
 use Rattle.reference.specs.ReferenceRun.{RunState, access_room, after_interval, end_of, first_state, has_ended, recorded_turns, time_of, world_of, woven_interval}
 
@@ -111,11 +110,6 @@ pub record IsBoundPhase (machine : Machine) (image : MemoryImage) (end : ℕ) (b
 abbrev pub listed : Turns → Option (List ℕ)
 listed CoreByCore = None
 listed (Listed turns) = Some turns.now
-
--- the accesses in the order of a list of turns, or core by core where there is none
-abbrev pub taken_by : Option (List ℕ) → RecorderState → List Entry
-taken_by None r = entries_of r
-taken_by (Some turns) r = in_turns turns r.lists
 
 -- The run has the bound phase of its next interval behind it, which is recorded. The cores ran by the turns of a list,
 -- or one after the other where there is none.

@@ -1,5 +1,5 @@
 //! An interval of a run.
-ghost use Rattle.std.specs.Prelude.{◌≡◌, ◌+◌, ◌*◌, ◌<◌, ◌≤◌, ◌^◌, ℕ, All, IfOk, OnOk, length, vec_len};
+ghost use Rattle.std.specs.Prelude.{◌≡◌, ◌+◌, ◌*◌, ◌<◌, ◌≤◌, ◌^◌, ℕ, IfOk, IfSome, OnOk, length, map};
 ghost use Rattle.std.specs.Option.{option_map};
 ghost use Rattle.crew.specs.Crews.{free_seats};
 ghost use Rattle.machine_desc.specs.Machine.{IsMachine};
@@ -8,6 +8,8 @@ ghost use Rattle.bound_records.specs.CoreRuns.{IsNetOf};
 ghost use Rattle.run.specs.declared.simulation.Simulation.{Simulation};
 ghost use Rattle.run.specs.Recording.{IsRecordingSoFar, is_on};
 ghost use Rattle.reference.specs.ReferenceRun.{RunState};
+ghost use Rattle.run.specs.Records.{AreTakenSo, IsSameButAccesses, accesses_in};
+ghost use Rattle.run.specs.Waiting.{IsTurnList, turns_in};
 ghost use Rattle.run.specs.Simulation.{HasGoneOn, HasNextInterval, HasRecorded, HasRoomForInterval, listed};
 
 use crate::Recording;
@@ -15,36 +17,41 @@ use crate::context::Context;
 use crate::laws::intervals_are_woven;
 use crate::records::weave_recorded;
 use crate::simulation::{Simulation, delay_all};
+use crate::waiting::{Order, Waiting};
 use access_record::{OrderBuffers, Turns};
 use bound_core::BoundCore;
-use bound_workers::{Share, WorkBuffers, bound_by};
+use bound_records::Recorder;
+use bound_workers::{Work, WorkBuffers, bound_by};
 use crew::{Asker, Post};
 use stats::CoreCount;
+use std::alloc::Global;
 use std::sync::Wait;
 use std::thread::Threads;
 use weave_chains::ChainBuffers;
-use worker_pace::{Load, Pace};
+use worker_pace::{Load, Pace, SIZES, sizes};
 use zs_host::Gate;
 use zs_num::{Cycle, NoMemory};
 
 /// Runs the interval that ends at cycle `end`, 10 * 2^30 at most: first each core to the interval's
 /// end, by as many workers as the pace says, or by all where the gate is to be passed. Then so many
 /// workers weave, as `weave_recorded` says. The recording gains the interval's events, and the pace
-/// learns what the interval had. Answers the run after the interval, and the cores of the
-/// interval's accesses in recorded order.
+/// learns what the interval had. Answers the run after the interval, and the recorded order of the
+/// interval's accesses, which is still to be told where several workers ran the cores and the weave
+/// did not need it.
 pub(crate) fn run_interval<'a, R: Threads + Wait + Sync, G: Gate>(
     context: &Context<'a, R, G>,
     simulation: Simulation,
     end: Cycle,
     pace: &mut Pace,
-    posts: &[Post<Share<'a, R, G>>],
-    askers: &mut [Asker<Share<'a, R, G>>],
+    posts: &[Post<Work<'a, R, G>>],
+    askers: &mut [Asker<Work<'a, R, G>>],
     domains_are_worth: &mut bool,
     recording: &mut Recording,
     chain_buffers: &mut ChainBuffers,
     order_buffers: &mut OrderBuffers,
+    waiting: &mut Waiting,
     buffers: &mut WorkBuffers,
-) -> Result<(Simulation, Vec<u16>), NoMemory>
+) -> Result<(Simulation, Order), NoMemory>
     requires pace { (pace.old ≤ 64) × (pace.old ≤ length posts.now + 1) }
     requires askers { askers.old ≡ free_seats posts.now }
     requires workers { (1 ≤ context.now.workers) × (context.now.workers ≤ 64) }
@@ -54,10 +61,10 @@ pub(crate) fn run_interval<'a, R: Threads + Wait + Sync, G: Gate>(
     requires room { HasRoomForInterval context.now.machine.now end simulation }
     requires recording { IsRecordingSoFar context.now.machine.now recording.old }
     requires goes_on { (s : RunState) × HasNextInterval context.now.machine.now end s simulation }
-    ensures goes_on { IfOk result (λ r. (s : RunState) → HasNextInterval context.now.machine.now end s simulation → HasGoneOn context.now.machine.now context.now.program.now s r.1.items recording.old recording.new r.0) }
+    ensures goes_on { IfOk result (λ r. (s : RunState) → HasNextInterval context.now.machine.now end s simulation → HasGoneOn context.now.machine.now context.now.program.now s (turns_in r.1) recording.old recording.new r.0) }
     ensures on { is_on recording.new ≡ is_on recording.old }
-    ensures cores { IfOk result (λ r. All (λ number. number < context.now.machine.now.cores) r.1.items) }
-    ensures few { IfOk result (λ r. vec_len r.1 < 2 ^ 32) }
+    ensures turns { IfOk result (λ r. IsTurnList context.now.machine.now.cores (turns_in r.1)) }
+    ensures waiting { waiting.new.orders ≡ waiting.old.orders }
     ensures pace { pace.new ≡ pace.old }
     ensures askers { askers.new ≡ askers.old }
 {
@@ -69,7 +76,7 @@ pub(crate) fn run_interval<'a, R: Threads + Wait + Sync, G: Gate>(
     let instructions = instructions_of(&simulation.cores).saturating_sub(before);
     let load = load_of(instructions, simulation.recorder.counts(), pace.all());
     pace.learn(runners, load);
-    let cores = weave_all(
+    let told = weave_all(
         context,
         &mut simulation,
         turns_of(&list),
@@ -78,8 +85,51 @@ pub(crate) fn run_interval<'a, R: Threads + Wait + Sync, G: Gate>(
         chain_buffers,
         order_buffers,
     )?;
-    buffers.keep_turns(list);
-    Ok((simulation, cores))
+    let order = order_after(
+        context.alloc,
+        &mut simulation.recorder,
+        told,
+        list,
+        order_buffers,
+        waiting,
+        buffers,
+    )?;
+    Ok((simulation, order))
+}
+
+/// The recorded order of an interval that is woven, for which it may have been told. It is told
+/// here where no list names the turns; else the accesses and the list are put aside.
+fn order_after(
+    alloc: Global,
+    recorder: &mut Recorder,
+    told: Option<Vec<u16>>,
+    list: Option<Vec<u16>>,
+    order_buffers: &mut OrderBuffers,
+    waiting: &mut Waiting,
+    buffers: &mut WorkBuffers,
+) -> Result<Order, NoMemory>
+    requires few { length recorder.old.world.shards ≤ 64 }
+    requires taken { AreTakenSo (option_map (λ turns. turns.items) list) recorder.old }
+    requires told { IfSome told (λ cores. cores.items ≡ map (λ e. e.core) (accesses_in recorder.old)) }
+    ensures order { IfOk result (λ order. turns_in order ≡ map (λ e. e.core) (accesses_in recorder.old)) }
+    ensures recorder { OnOk result (IsSameButAccesses recorder.old recorder.new) }
+    ensures waiting { waiting.new.orders ≡ waiting.old.orders }
+{
+    if let Some(cores) = told {
+        buffers.keep_turns(list);
+        return Ok(Order::Told(cores));
+    }
+    match list {
+        Some(turns) => {
+            let logs = waiting.take_logs(alloc, buffers);
+            let unordered = recorder.put_aside(alloc, turns, logs)?;
+            Ok(Order::Untold(unordered))
+        }
+        None => {
+            let cores = recorder.recorded_cores(alloc, Turns::CoreByCore, order_buffers)?;
+            Ok(Order::Told(cores))
+        }
+    }
 }
 
 /// How many workers run the cores: as many as the pace says, or all where the gate is to be passed.
@@ -103,7 +153,7 @@ fn instructions_of(cores: &[BoundCore]) -> u64 {
     sum
 }
 
-/// So many instructions, and the accesses that were counted, where so many workers would share the
+/// So many instructions, and the accesses that were counted, where at most so many workers share the
 /// cores. Of each the greatest number where they are more.
 fn load_of(instructions: u64, counts: &[CoreCount], workers: u16) -> Load {
     let mut own: u64 = 0;
@@ -121,8 +171,19 @@ fn load_of(instructions: u64, counts: &[CoreCount], workers: u16) -> Load {
         accesses: own.saturating_add(shared),
         shared,
         upgrades,
-        busiest: busiest_of(counts, workers),
+        busiest: busiest_of_each(counts, workers),
     }
+}
+
+/// How many of the accesses are the busiest worker's, for each size in which the workers may run,
+/// where so many are all.
+fn busiest_of_each(counts: &[CoreCount], workers: u16) -> [u64; SIZES] {
+    let sizes = sizes(workers);
+    let mut busiest = [0; SIZES];
+    for size in 0..SIZES {
+        busiest[size] = busiest_of(counts, sizes[size]);
+    }
+    busiest
 }
 
 /// How many of the accesses are of that worker of so many, 64 at most, whose cores have most.
@@ -153,8 +214,8 @@ fn bound_all<'a, R: Wait + Sync, G: Gate>(
     simulation: Simulation,
     end: Cycle,
     workers: u16,
-    posts: &[Post<Share<'a, R, G>>],
-    askers: &mut [Asker<Share<'a, R, G>>],
+    posts: &[Post<Work<'a, R, G>>],
+    askers: &mut [Asker<Work<'a, R, G>>],
     buffers: &mut WorkBuffers,
 ) -> Result<(Simulation, Option<Vec<u16>>), NoMemory>
     requires machine { IsMachine context.now.machine.now }
@@ -225,7 +286,7 @@ fn turns_of(list: &Option<Vec<u16>>) -> Turns<'_>
 }
 
 /// The weave of an interval that is recorded, and whose accesses were made by these turns. Answers
-/// the cores of its accesses in recorded order.
+/// the cores of its accesses in recorded order, where these had to be told.
 fn weave_all<R: Threads + Sync, G: Gate>(
     context: &Context<'_, R, G>,
     simulation: &mut Simulation,
@@ -234,16 +295,17 @@ fn weave_all<R: Threads + Sync, G: Gate>(
     recording: &mut Recording,
     chain_buffers: &mut ChainBuffers,
     order_buffers: &mut OrderBuffers,
-) -> Result<Vec<u16>, NoMemory>
+) -> Result<Option<Vec<u16>>, NoMemory>
     requires workers { (1 ≤ context.now.workers) × (context.now.workers ≤ 64) }
     requires machine { IsMachine context.now.machine.now }
     requires net { IsNetOf context.now.machine.now context.now.net.now }
     requires recording { IsRecordingSoFar context.now.machine.now recording.old }
     requires recorded { (image : MemoryImage) × (end : ℕ) × (before : Simulation) × (s : RunState) × HasNextInterval context.now.machine.now end s before × HasRecorded context.now.machine.now image end before (listed turns) simulation.old }
-    ensures goes_on { IfOk result (λ cores. (image : MemoryImage) (end : ℕ) (before : Simulation) (s : RunState) → HasNextInterval context.now.machine.now end s before → HasRecorded context.now.machine.now image end before (listed turns.entry) simulation.old → HasGoneOn context.now.machine.now image s cores.items recording.old recording.new simulation.new) }
+    ensures goes_on { OnOk result ((image : MemoryImage) (end : ℕ) (before : Simulation) (s : RunState) → HasNextInterval context.now.machine.now end s before → HasRecorded context.now.machine.now image end before (listed turns.entry) simulation.old → HasGoneOn context.now.machine.now image s (map (λ e. e.core) (accesses_in simulation.old.recorder)) recording.old recording.new simulation.new) }
+    ensures told { IfOk result (λ told. IfSome told (λ cores. cores.items ≡ map (λ e. e.core) (accesses_in simulation.old.recorder))) }
+    ensures recorder { OnOk result (simulation.new.recorder ≡ simulation.old.recorder) }
     ensures on { is_on recording.new ≡ is_on recording.old }
-    ensures cores { IfOk result (λ cores. All (λ number. number < context.now.machine.now.cores) cores.items) }
-    ensures few { IfOk result (λ cores. vec_len cores < 2 ^ 32) }
+    ensures turns { OnOk result (IsTurnList context.now.machine.now.cores (map (λ e. e.core) (accesses_in simulation.old.recorder))) }
 {
     stats::laws::counters_are_sums();
     stats::laws::sums_fit();
@@ -256,20 +318,17 @@ fn weave_all<R: Threads + Sync, G: Gate>(
     bound_core::laws::phases_are_histories();
     bound_core::laws::intervals_begin();
     intervals_are_woven();
-    let cores = simulation
-        .recorder
-        .recorded_cores(context.alloc, turns, order_buffers)?;
-    let delays = weave_recorded(
+    let (delays, told) = weave_recorded(
         context,
         &simulation.recorder,
         turns,
-        &cores,
         &mut simulation.comps,
         &mut simulation.counters,
         domains_are_worth,
         recording,
         chain_buffers,
+        order_buffers,
     )?;
     delay_all(&mut simulation.cores, delays.as_slice());
-    Ok(cores)
+    Ok(told)
 }

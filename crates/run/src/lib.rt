@@ -6,6 +6,7 @@
 
 mod chains;
 mod context;
+mod ending;
 mod firing;
 mod first_passes;
 mod interval;
@@ -17,10 +18,13 @@ mod records;
 mod results;
 mod running;
 mod simulation;
+mod waiting;
 mod weaving;
 
+pub use ending::{access_room, has_ended};
 pub use recording::Recording;
 pub use records::weave_replayed;
 pub use results::Final;
 pub use running::run;
-pub use simulation::{Simulation, delay_all};
+pub use simulation::{Simulation, delay_all, first_cores};
+pub use weaving::{WovenInterval, events_of, woven_of};

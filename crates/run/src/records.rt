@@ -35,32 +35,32 @@ use zs_num::{Entries, NoMemory};
 
 /// Fires the events of an interval's accesses, which were made by these turns, by so many workers,
 /// who pass the gate before each. Moves the components on, counts the interval, and adds it to the
-/// recording. Answers the delays of the cores. `order` has the cores of the accesses in recorded
-/// order, and `domains_are_worth` says what it says to `fire_all`. They are fired core by core, as
-/// far as the order of the accesses does not matter, by one worker and where domains are not worth
-/// it, while no events are kept.
+/// recording. Answers the delays of the cores, and their numbers in the recorded order of the accesses
+/// where this had to be told. `domains_are_worth` says what it says to `fire_all`. The events are
+/// fired core by core, as far as the order of the accesses does not matter, by one worker and where
+/// domains are not worth it, while no events are kept.
 pub(crate) fn weave_recorded<R: Threads + Sync, G: Gate>(
     context: &Context<'_, R, G>,
     recorder: &Recorder,
     turns: Turns<'_>,
-    order: &[u16],
     comps: &mut Comps<Comp>,
     counters: &mut Counters,
     domains_are_worth: &mut bool,
     recording: &mut Recording,
     chain_buffers: &mut ChainBuffers,
-) -> Result<Delays, NoMemory>
+    order_buffers: &mut OrderBuffers,
+) -> Result<(Delays, Option<Vec<u16>>), NoMemory>
     requires workers { (1 ≤ context.now.workers) × (context.now.workers ≤ 64) }
     requires machine { IsMachine context.now.machine.now }
     requires net { IsNetOf context.now.machine.now context.now.net.now }
     requires recorded { IsRecorded context.now.machine.now recorder.now }
     requires turns { AreTakenIn turns recorder.now }
-    requires order { order.now ≡ map (λ e. e.core) (accesses_in recorder.now) }
     requires components { AreComponents context.now.machine.now comps.old }
     requires free { All (λ c. free_of c ≤ 2 ^ 56) comps.old }
     requires fits { FitsIn (recorded_interval context.now.machine.now comps.old recorder.now) context.now.machine.now comps.old counters.old }
     requires recording { IsRecordingSoFar context.now.machine.now recording.old }
-    ensures taken { IfOk result (IsTakenIn (recorded_interval context.now.machine.now comps.old recorder.now) comps.old comps.new counters.old counters.new) }
+    ensures taken { IfOk result (λ r. IsTakenIn (recorded_interval context.now.machine.now comps.old recorder.now) comps.old comps.new counters.old counters.new r.0) }
+    ensures order { IfOk result (λ r. IfSome r.1 (λ list. list.items ≡ map (λ e. e.core) (accesses_in recorder.now))) }
     ensures recorded { OnOk result ((intervals : List Interval) → IsRecordingOf context.now.machine.now intervals recording.old → IsRecordingOf context.now.machine.now (intervals ++ recorded_interval context.now.machine.now comps.old recorder.now ∷ []) recording.new) }
     ensures on { is_on recording.new ≡ is_on recording.old }
 {
@@ -80,25 +80,29 @@ pub(crate) fn weave_recorded<R: Threads + Sync, G: Gate>(
         chain_buffers,
     )?;
     match found {
-        Some(delays) => Ok(delays),
-        None => weave_in_order(
-            context,
-            recorder,
-            turns,
-            order,
-            comps,
-            counters,
-            weavers,
-            &later_passes(
+        Some(delays) => Ok((delays, None)),
+        None => {
+            let order = recorder.recorded_cores(context.alloc, turns, order_buffers)?;
+            let delays = weave_in_order(
                 context,
+                recorder,
+                turns,
+                &order,
+                comps,
+                counters,
                 weavers,
-                *domains_are_worth,
+                &later_passes(
+                    context,
+                    weavers,
+                    *domains_are_worth,
+                    recording,
+                    chain_buffers,
+                ),
+                domains_are_worth,
                 recording,
-                chain_buffers,
-            ),
-            domains_are_worth,
-            recording,
-        ),
+            )?;
+            Ok((delays, Some(order)))
+        }
     }
 }
 

@@ -1,4 +1,9 @@
 //! What a run gives: its cores, what was counted, and whether a limit ended it.
+ghost use Rattle.std.specs.Prelude.{◌≡◌, map, not};
+ghost use Rattle.bound_core.specs.NumberedCores.{timed_of};
+ghost use Rattle.reference.specs.ReferenceRun.{have_halted};
+
+use crate::ending::have_halted;
 use bound_core::BoundCore;
 use stats::Counters;
 use std::marker::Model;
@@ -23,4 +28,19 @@ impl Model for Final {
     ghost Value = { Results };
 
     ghost view = { λ r. record { cores = map (λ c. c.timed) r.cores.items; numbers = map (λ c. c.number) r.cores.items; counts = r.counters; intervals = r.intervals; limit = r.limit } };
+}
+
+impl Final {
+    /// What a run gives that ended before this interval.
+    pub fn of(cores: Vec<BoundCore>, counters: Counters, interval: u32) -> Self
+        ensures { result ≡ record { cores = timed_of cores.items; numbers = map (λ c. c.number) cores.items; counts = counters; intervals = interval; limit = not (have_halted (timed_of cores.items)) } }
+    {
+        let limit = !have_halted(&cores);
+        Final {
+            cores,
+            counters,
+            intervals: interval,
+            limit,
+        }
+    }
 }

@@ -14,10 +14,11 @@ ghost use Rattle.run.specs.Simulation.{IsAtStart};
 use crate::context::Context;
 use crate::interval::run_interval;
 use crate::simulation::Simulation;
+use crate::waiting::Waiting;
 use crate::{Final, Recording};
 use access_log::Schedule;
 use access_record::OrderBuffers;
-use bound_workers::{Share, WorkBuffers};
+use bound_workers::{Work, WorkBuffers};
 use component::laws::fresh_components_are_there;
 use crew::{Asker, Crew, Post, end_all, run_beside};
 use domain_map::component_domains;
@@ -120,7 +121,7 @@ fn run_by_crew<R: Threads + Wait + Sync, G: Gate>(
 fn run_beside_them<'a, R: Threads + Wait + Sync, G: Gate>(
     context: &Context<'a, R, G>,
     simulation: Simulation,
-    crew: Crew<Share<'a, R, G>>,
+    crew: Crew<Work<'a, R, G>>,
     schedule: &mut Schedule,
     recording: &mut Recording,
 ) -> Result<Final, NoMemory>
@@ -167,8 +168,8 @@ fn run_beside_them<'a, R: Threads + Wait + Sync, G: Gate>(
 fn go<'a, R: Threads + Wait + Sync, G: Gate>(
     context: &Context<'a, R, G>,
     first: &mut Option<Simulation>,
-    posts: &[Post<Share<'a, R, G>>],
-    askers: &mut [Asker<Share<'a, R, G>>],
+    posts: &[Post<Work<'a, R, G>>],
+    askers: &mut [Asker<Work<'a, R, G>>],
     schedule: &mut Schedule,
     recording: &mut Recording,
 ) -> Result<Final, NoMemory>
@@ -189,8 +190,8 @@ fn go<'a, R: Threads + Wait + Sync, G: Gate>(
 fn run_on<'a, R: Threads + Wait + Sync, G: Gate>(
     context: &Context<'a, R, G>,
     mut simulation: Simulation,
-    posts: &[Post<Share<'a, R, G>>],
-    askers: &mut [Asker<Share<'a, R, G>>],
+    posts: &[Post<Work<'a, R, G>>],
+    askers: &mut [Asker<Work<'a, R, G>>],
     schedule: &mut Schedule,
     recording: &mut Recording,
 ) -> Result<Final, NoMemory>
@@ -216,6 +217,7 @@ fn run_on<'a, R: Threads + Wait + Sync, G: Gate>(
     let mut chain_buffers = ChainBuffers::new(context.alloc);
     let mut order_buffers = OrderBuffers::none();
     let mut work_buffers = WorkBuffers::none();
+    let mut waiting = Waiting::none(context.alloc);
     let mut domains_are_worth = true;
     let mut k = 0;
     let mut end = 0;
@@ -223,7 +225,7 @@ fn run_on<'a, R: Threads + Wait + Sync, G: Gate>(
         domains_are_worth = domains_are_worth || k % TRIED == 0;
         k += 1;
         end += context.machine.interval;
-        let (next, turns) = run_interval(
+        let (next, order) = run_interval(
             context,
             simulation,
             end,
@@ -234,10 +236,12 @@ fn run_on<'a, R: Threads + Wait + Sync, G: Gate>(
             recording,
             &mut chain_buffers,
             &mut order_buffers,
+            &mut waiting,
             &mut work_buffers,
         )?;
         simulation = next;
-        schedule.push(turns)?;
+        waiting.add(context, posts, askers, order, schedule)?;
     }
+    waiting.tell(context, posts, askers, schedule)?;
     Ok(simulation.results(k))
 }

@@ -20,10 +20,26 @@ const TAKEN_AWAY: u64 = 50_000;
 const UPGRADE: u64 = 5_000;
 
 /// How long it takes to put an access in order among those of other workers.
-const ORDERED: u64 = 40;
+const ORDERED: u64 = 20;
 
-/// How long it takes to set several workers to an interval, and to wait for the last of them.
-const GATHERING: u64 = 100_000;
+/// How long it takes to set a worker to an interval, and to wait for it.
+const GATHERING: u64 = 30_000;
+
+/// In how many sizes workers may run an interval: 2, 4, 8, 16, 32 and 64 of them, or all where these
+/// are fewer.
+pub const SIZES: usize = 6;
+
+/// How many workers there are in each of these sizes, where so many are all.
+pub fn sizes(all: u16) -> [u16; SIZES] {
+    [
+        all.min(2),
+        all.min(4),
+        all.min(8),
+        all.min(16),
+        all.min(32),
+        all.min(64),
+    ]
+}
 
 /// What an interval has, or a mean of some.
 #[derive(Drop)]
@@ -36,9 +52,9 @@ pub struct Load {
     pub shared: u64,
     /// How many of them are upgrades: the core has the line, and others lose it.
     pub upgrades: u64,
-    /// How many of the accesses are of the cores of that worker whose cores have most, where all
-    /// workers run.
-    pub busiest: u64,
+    /// How many of the accesses are of the cores of that worker whose cores have most, for each size
+    /// in which the workers may run.
+    pub busiest: [u64; SIZES],
 }
 
 impl Load {
@@ -48,7 +64,7 @@ impl Load {
         accesses: 0,
         shared: 0,
         upgrades: 0,
-        busiest: 0,
+        busiest: [0; SIZES],
     };
 
     /// A mean that has gone on by an interval, which has a quarter of it.
@@ -58,7 +74,7 @@ impl Load {
             accesses: mean(self.accesses, next.accesses),
             shared: mean(self.shared, next.shared),
             upgrades: mean(self.upgrades, next.upgrades),
-            busiest: mean(self.busiest, next.busiest),
+            busiest: means(&self.busiest, &next.busiest),
         }
     }
 
@@ -67,23 +83,37 @@ impl Load {
         sum(self.own(), product(self.shared, SHARED_ALONE))
     }
 
-    /// How long several take on so many processors, where one worker had that other load.
-    pub(crate) fn time_among(&self, processors: u16, alone: &Load) -> u64 {
+    /// How long so many workers take on so many processors, the busiest of whom has so many of the
+    /// accesses, where one worker had that other load.
+    pub(crate) fn time_among(
+        &self,
+        workers: u16,
+        processors: u16,
+        busiest: u64,
+        alone: &Load,
+    ) -> u64 {
         let work = sum(self.own(), product(self.shared, SHARED_AMONG));
-        let of_busiest = product(work, self.busiest) / self.accesses.max(1);
-        let beside = of_busiest.max(work / u64::from(processors.max(1)));
+        let of_busiest = product(work, busiest) / self.accesses.max(1);
+        let hands = workers.min(processors).max(1);
+        let beside = of_busiest.max(work / u64::from(hands));
         let taken_away = product(self.shared.saturating_sub(alone.shared), TAKEN_AWAY);
         let upgrades = product(self.upgrades, UPGRADE);
-        let ordered = sum(product(self.accesses, ORDERED), GATHERING);
+        let gathering = product(u64::from(workers), GATHERING);
+        let ordered = sum(product(self.accesses, ORDERED), gathering);
         sum(sum(beside, upgrades), sum(taken_away, ordered))
     }
 
-    /// Whether it is dealt out to the workers more evenly than another one: the busiest worker has
+    /// Whether it is dealt out to all workers more evenly than another one: the busiest worker has
     /// less than three quarters of its part there.
     pub(crate) fn is_more_even_than(&self, other: &Load) -> bool {
-        let own = product(product(self.busiest, other.accesses), 4);
-        let of_other = product(product(other.busiest, self.accesses), 3);
+        let own = product(product(self.of_all(), other.accesses), 4);
+        let of_other = product(product(other.of_all(), self.accesses), 3);
         own < of_other
+    }
+
+    /// How many of the accesses are the busiest worker's where all run.
+    fn of_all(&self) -> u64 {
+        self.busiest[SIZES - 1]
     }
 
     /// How long a worker takes for it without what is shared.
@@ -108,4 +138,13 @@ fn product(a: u64, b: u64) -> u64 {
 /// A mean that has gone on by a number, which has a quarter of it.
 fn mean(so_far: u64, next: u64) -> u64 {
     sum(so_far - so_far / 4, next / 4)
+}
+
+/// Means that have gone on by numbers, each of which has a quarter.
+fn means(so_far: &[u64; SIZES], next: &[u64; SIZES]) -> [u64; SIZES] {
+    let mut means = *so_far;
+    for size in 0..SIZES {
+        means[size] = mean(so_far[size], next[size]);
+    }
+    means
 }

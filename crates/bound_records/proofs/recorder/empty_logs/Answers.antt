@@ -9,7 +9,7 @@ pub loop-core-preserved : goal.loop-core-preserved
 loop-core-preserved c =
     let n = c.loop-core.core in
     let one = c.in_ok-with_room.field-0 in
-    let made = no_log c.args.machine.now.l2.banks c.args.room in
+    let made = no_log c.args.banks c.args.room in
     c.in_ok-push.ensures.items
     ∙ (ap (λ (xs : List BankLogState). xs ++ one ∷ []) c.loop-core.invariant
     ∙ (ap (λ (x : BankLogState). map made (range_with_len 0 n) ++ x ∷ []) c.in_ok-with_room.ensures

@@ -1,19 +1,16 @@
-use denote.Exit.{yes}
-use denote.Param.{param}
-use denote.Param.Send.{arg_send, param_send}
 use Rattle.std.proofs.Common.{◌≡◌, ℕ, ◌<◌, List, length, get_or, arith}
 use Rattle.std.specs.Arc.{arc_value}
 use Rattle.zs_num.specs.declared.entry.Entry.{Entry}
 use Rattle.noc_mesh.specs.NetTiming.{net_time}
 use Rattle.bound_workers.specs.Team.{CanWork, HasWorked}
+use Rattle.bound_workers.specs.Works.{HasShared}
 use Rattle.bound_workers.specs.declared.share.Share.{Share}
 use Rattle.bound_workers.specs.declared.team.Team.{Team}
-use Rattle.bound_workers.proofs.Sending.{share_send}
 use Rattle.bound_workers.proofs.Sharing.{all_done, can_at, same_can, same_work}
 use Rattle.bound_workers.proofs.working.work_all.Goals as goal
 
-pub do_all-requires-clause-can : goal.do_all-requires-clause-can
-do_all-requires-clause-can g c κs inside = λ i d within.
+pub do_shares-requires-clause-can : goal.do_shares-requires-clause-can
+do_shares-requires-clause-can g c κs inside = λ i d within.
     let J : Type 0 = Share g.row.R.Denot g.row.G.Denot in
     let made = c.in_ok-shares.ensures in
     let shares : List J = c.in_ok-shares.shares.items in
@@ -26,19 +23,17 @@ returns-clause-worked g c = λ i d within.
     let J : Type 0 = Share g.row.R.Denot g.row.G.Denot in
     let made = c.in_ok-shares.ensures in
     let shares : List J = c.in_ok-shares.shares.items in
+    let done : List J = c.in_ok-done.done.items in
     let image = c.args.program.now in
     let end = c.args.end in
     let len = c.args.teams.now.ok.0 in
     let inside : i < length c.args.teams.now.items = omega (arith, within, len) in
     all_done (λ (s : J). s.team)
-    (λ (s t : J). (arc_value t.table ≡ arc_value s.table) × HasWorked (λ e. net_time s.net.now.path e) s.program.now s.end (arc_value s.table) s.team t.team)
+    (λ (s t : J). HasShared s t)
     (HasWorked (λ e. net_time c.args.net.now.path e) image end (arc_value c.args.table.now))
-    shares c.do_all.new.jobs.items c.args.teams.now.items c.take_teams.new.teams.items made.teams c.take_teams.ensures c.do_all.ensures.done
+    shares done c.args.teams.now.items c.take_teams.new.teams.items made.teams c.take_teams.ensures c.in_ok-done.ensures.done
     (λ k x there did.
     let s : J = get_or shares k x in
-    same_work s.net.now c.args.net.now s.program.now image s.end end (arc_value s.table) (arc_value c.args.table.now) s.team (get_or c.do_all.new.jobs.items k x).team
-    (made.nets k x there) (made.programs k x there) (made.ends k x there) (made.tables k x there) did.1)
+    same_work s.net.now c.args.net.now s.program.now image s.end end (arc_value s.table) (arc_value c.args.table.now) s.team (get_or done k x).team
+    (made.nets k x there) (made.programs k x there) (made.ends k x there) (made.tables k x there) did.worked)
     i d inside
-
-pub do_all-requires-send-J : goal.do_all-requires-send-J
-do_all-requires-send-J g c κs within = param_send 1 _ (arg_send _ yes _ (share_send _ (param 0 g.row.R) (param 1 g.row.G) c.type_bounds.sync-R c.type_bounds.sync-G))

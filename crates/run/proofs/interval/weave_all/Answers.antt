@@ -10,9 +10,9 @@ use Rattle.bound_core.specs.ShardWorld.{restarted}
 use Rattle.bound_records.specs.CoreRuns.{AreNumbered}
 use Rattle.run.specs.declared.simulation.Simulation.{Simulation}
 use Rattle.run.specs.Recording.{IsRecordingOf}
-use Rattle.run.specs.Records.{accesses_in, recorded_interval}
+use Rattle.run.specs.Records.{accesses_in, recorded_interval, taken_by}
 use Rattle.reference.specs.ReferenceRun.{all_delayed, time_of, woven_interval}
-use Rattle.run.specs.Simulation.{cores_of, listed, taken_by}
+use Rattle.run.specs.Simulation.{cores_of, listed}
 use Rattle.run.proofs.BoundPhase.{OrderLaws, in_recorded_order}
 use Rattle.run.proofs.Cores.{each_clock}
 use Rattle.run.proofs.GoneOn.{gone_on, small_room}
@@ -20,18 +20,10 @@ use Rattle.run.proofs.NextInterval.{Laws}
 use Rattle.run.proofs.RecordedFacts as F
 use Rattle.run.proofs.interval.weave_all.Goals as goal
 
-pub recorded_cores-requires : goal.recorded_cores-requires
-recorded_cores-requires g c =
-    let h = c.requires.recorded.5 in
-    F.taken_so c.args.turns c.args.simulation.now.recorder h.in_turn h.named
-
 pub weave_recorded-requires-clause-turns : goal.weave_recorded-requires-clause-turns
 weave_recorded-requires-clause-turns g c κs within =
     let h = c.requires.recorded.5 in
     F.taken_so c.args.turns c.args.simulation.now.recorder h.in_turn h.named
-
-pub weave_recorded-requires-clause-order : goal.weave_recorded-requires-clause-order
-weave_recorded-requires-clause-order g c κs within = c.deref.ensures.value ∙ c.in_ok-cores.ensures
 
 pub weave_recorded-requires-clause-recorded : goal.weave_recorded-requires-clause-recorded
 weave_recorded-requires-clause-recorded g c κs within = c.requires.recorded.5.recorded
@@ -64,15 +56,14 @@ delay_all-requires-clause-delays g c =
     c.requires.machine c.intervals_are_woven.ensures c.args.context.now.net.now c.requires.net in
     subst (All (λ (d : ℕ). d ≤ 2 ^ 62)) (sym (c.as_slice.ensures ∙ c.in_ok-delays.ensures.taken.delays_are)) sound.delays_small
 
-pub returns-clause-cores : goal.returns-clause-cores
-returns-clause-cores g c =
+pub returns-clause-turns : goal.returns-clause-turns
+returns-clause-turns g c =
     let accesses : List Entry = accesses_in c.args.simulation.now.recorder in
-    subst (All (λ (n : ℕ). n < c.args.context.now.machine.now.cores)) (sym c.in_ok-cores.ensures) (All-map (λ (n : ℕ). n < c.args.context.now.machine.now.cores) (λ (e : Entry). e.core) accesses c.requires.recorded.5.bounded.cores)
-
-pub returns-clause-few : goal.returns-clause-few
-returns-clause-few g c =
-    let accesses : List Entry = accesses_in c.args.simulation.now.recorder in
-    omega (arith, c.in_ok-cores.cores.ok.0, ap length c.in_ok-cores.ensures, length-map accesses (λ (e : Entry). e.core), c.requires.recorded.5.bounded.few, small_room c.args.context.now.machine.now c.requires.machine)
+    let bounded = c.requires.recorded.5.bounded in
+    record {
+      known = All-map (λ (n : ℕ). n < c.args.context.now.machine.now.cores) (λ (e : Entry). e.core) accesses bounded.cores;
+      short = omega (arith, length-map accesses (λ (e : Entry). e.core), bounded.few, small_room c.args.context.now.machine.now c.requires.machine);
+    }
 
 pub returns-clause-goes_on : goal.returns-clause-goes_on
 returns-clause-goes_on g c = λ image end before s goes h.
@@ -114,6 +105,6 @@ returns-clause-goes_on g c = λ image end before s goes h.
     in
     let from : q.comps ≡ s.comps = h.comps ∙ goes.come.comps in
     let is : i ≡ woven_interval machine s.comps entries = ap (λ (comps : List Comp). woven_interval machine comps entries) from in
-    gone_on machine image s c.in_ok-cores.cores.items order entries c.args.recording.now c.weave_recorded.new.recording p
-    c.in_ok-cores.ensures refl found.0 found.1
+    gone_on machine image s order order entries c.args.recording.now c.weave_recorded.new.recording p
+    refl refl found.0 found.1
     (λ was. subst (λ (j : Interval). IsRecordingOf machine (s.intervals ++ j ∷ []) c.weave_recorded.new.recording) is (c.in_ok-delays.ensures.recorded s.intervals was))

@@ -1,5 +1,5 @@
-use Rattle.std.proofs.Common.{◌≡◌, ◌^◌, ◌≤◌, ◌++◌, ◌∷◌, [], ℕ, List, Option, All, sym, subst}
-use Rattle.std.specs.Prelude.{IfNone, IfOk, IfSome, OnOk, false}
+use Rattle.std.proofs.Common.{◌≡◌, ◌^◌, ◌≤◌, ◌++◌, ◌∷◌, [], ℕ, List, Option, All, sym, ◌∙◌, subst}
+use Rattle.std.specs.Prelude.{IfNone, IfSome, false}
 use Rattle.component.specs.declared.comp.Comp.{Comp}
 use Rattle.component.specs.ComponentStep.{free_of}
 use Rattle.component.specs.Components.{AreComponents}
@@ -39,22 +39,15 @@ weave_in_order-requires-clause-fits g c κs within =
     subst (λ (counts : Counts). FitsIn (recorded_interval machine c.weave_by_cores.new.comps r) machine c.weave_by_cores.new.comps counts) (sym counters)
     (subst (λ (comps : List Comp). FitsIn (recorded_interval machine comps r) machine comps c.args.counters.now) (sym same) c.requires.fits)
 
-pub returns-in-None-clause-taken : goal.returns-in-None-clause-taken
-returns-in-None-clause-taken g c =
-    let machine = c.args.context.now.machine.now in
-    let r = c.args.recorder.now in
-    let same : c.weave_by_cores.new.comps ≡ c.args.comps.now = subst (λ (o : Option (List ℕ)). IfNone o (c.weave_by_cores.new.comps ≡ c.args.comps.now)) c.in-None.is c.in_ok-found.ensures.comps in
-    let counters : c.weave_by_cores.new.counters ≡ c.args.counters.now = subst (λ (o : Option (List ℕ)). IfNone o (c.weave_by_cores.new.counters ≡ c.args.counters.now)) c.in-None.is c.in_ok-found.ensures.counters in
-    subst (λ (comps : List Comp). IfOk c.weave_in_order.result (IsTakenIn (recorded_interval machine comps r) comps c.weave_in_order.new.comps c.args.counters.now c.weave_in_order.new.counters)) same
-    (subst (λ (counts : Counts). IfOk c.weave_in_order.result (IsTakenIn (recorded_interval machine c.weave_by_cores.new.comps r) c.weave_by_cores.new.comps c.weave_in_order.new.comps counts c.weave_in_order.new.counters)) counters
-    c.weave_in_order.ensures.taken)
+pub weave_in_order-requires-clause-order : goal.weave_in_order-requires-clause-order
+weave_in_order-requires-clause-order g c κs within = c.deref.ensures.value ∙ c.in_ok-order-in-None.ensures
 
-pub returns-in-None-clause-recorded : goal.returns-in-None-clause-recorded
-returns-in-None-clause-recorded g c =
+pub returns-in_ok-delays-in-None-clause-recorded : goal.returns-in_ok-delays-in-None-clause-recorded
+returns-in_ok-delays-in-None-clause-recorded g c =
     let machine = c.args.context.now.machine.now in
     let r = c.args.recorder.now in
     let same : c.weave_by_cores.new.comps ≡ c.args.comps.now = subst (λ (o : Option (List ℕ)). IfNone o (c.weave_by_cores.new.comps ≡ c.args.comps.now)) c.in-None.is c.in_ok-found.ensures.comps in
     subst
     (λ (comps : List Comp).
-    OnOk c.weave_in_order.result ((intervals : List Interval) → IsRecordingOf machine intervals c.args.recording.now → IsRecordingOf machine (intervals ++ recorded_interval machine comps r ∷ []) c.weave_in_order.new.recording))
-    same c.weave_in_order.ensures.recorded
+    (intervals : List Interval) → IsRecordingOf machine intervals c.args.recording.now → IsRecordingOf machine (intervals ++ recorded_interval machine comps r ∷ []) c.weave_in_order.new.recording)
+    same c.in_ok-delays-in-None.ensures.recorded
