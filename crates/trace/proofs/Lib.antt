@@ -1,0 +1,12 @@
+pub mod AloneTold
+pub mod BoundPhase
+pub mod FiredInterval
+pub mod MachineSteps
+pub mod PhaseTold
+pub mod PortTurns
+pub mod Rising
+pub mod Room
+pub mod SameSteps
+pub mod TakingTurns
+pub mod TurnTold
+pub mod TurnsBegin

@@ -1,0 +1,20 @@
+-- the run has come to where the first intervals of the schedule lead, and their steps were told
+use Rattle.std.proofs.Common.{◌≡◌, ◌≤◌, ◌-◌, ◌*◌, ◌^◌, length, take}
+use Rattle.bound_records.specs.CoreRuns.{IsNetOf}
+use Rattle.trace.specs.TracedRun.{as_run}
+use Rattle.trace.proofs.MachineSteps.{HasTold}
+use Rattle.trace.proofs.tracing.trace_on.Given as goal
+
+abbrev pub invariant-loop-alloc : goal.invariant-loop-alloc
+invariant-loop-alloc g l = record {
+  so_far : HasTold l.machine l.program (take l.k l.schedule.lists) (as_run l.machine l.run) (g.T.Tracer.steps l.initial.tracer) (g.T.Tracer.steps l.tracer);
+  net : IsNetOf l.machine l.net;
+  count : l.k ≤ length l.schedule.lists;
+  end : l.end ≡ l.k * l.machine.interval;
+  small : l.end ≤ 10000 * l.k;
+  within : l.k ≤ l.machine.intervals;
+  accesses : l.run.counters.accesses ≤ 2 ^ 26;
+}
+
+abbrev pub decreases-loop-alloc : goal.decreases-loop-alloc
+decreases-loop-alloc g l = length l.schedule.lists - l.k

@@ -1,0 +1,4 @@
+pub mod Port
+pub mod Trace
+pub mod TracedRun
+pub mod Turns

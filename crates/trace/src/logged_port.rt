@@ -1,0 +1,172 @@
+//! A port through which cores access caches and memory, and which logs what they do.
+ghost use Rattle.std.specs.Prelude.{◌≡◌, ◌≤◌, ◌<◌, ◌&&◌, [], length, map, min, nat_lt, true, Some, IfOk, OnOk};
+ghost use Rattle.machine_desc.specs.Machine.{IsMachine};
+ghost use Rattle.shard.specs.StandsFor.{new_shards};
+ghost use Rattle.access_log.specs.History.{AreRising};
+ghost use Rattle.access_log.specs.Logs.{HaveDistinctKeys};
+ghost use Rattle.access_log.specs.RecordedOrder.{recorded_order};
+ghost use Rattle.bound_core.specs.ShardPort.{base_of, l1i_of, room_of, size_of};
+ghost use Rattle.bound_core.specs.ShardWorld.{begun_world, restarted};
+ghost use Rattle.trace.specs.Port.{gives, leaves_shards};
+
+use access_log::sort;
+use bound_core::{PartsPort, Port};
+use elf_load::Image;
+use machine_desc::Machine;
+use shard::{Leaving, Parts};
+use std::alloc::Global;
+use std::marker::Model;
+use std::mem;
+use zs_num::{Cycle, Entries, Entry, NoMemory, Request, Stamp};
+
+/// The caches and the memory of a machine, and the accesses that they have served in the interval
+/// so far, in the order of the turns. It knows whether the stamps of these have risen from each to
+/// the next: then the order of the turns is the recorded order.
+#[derive(Drop)]
+pub struct LoggedPort {
+    port: PartsPort,
+    entries: Vec<Entry>,
+    // The stamp of the latest access, 0 before the first.
+    last: Stamp,
+    rises: bool,
+}
+
+impl Model for LoggedPort {
+    ghost use Rattle.std.specs.Prelude.{◌-◌, vec_len, vec_capacity};
+    ghost use Rattle.trace.specs.Port.{LoggedPortState};
+    ghost use Rattle.trace.specs.Port.{KnowsItsOrder};
+
+    ghost Value = { LoggedPortState };
+
+    ghost view = { λ p. record { world = p.port.world; core = p.port.core; entries = p.entries.items; room = vec_capacity p.entries - vec_len p.entries } };
+
+    ghost invariant = { λ p. KnowsItsOrder p.last p.rises p.entries.items };
+}
+
+impl LoggedPort {
+    /// A port for the cores of a machine into which an executable was loaded, before the first
+    /// access of an interval, with no room for accesses yet.
+    pub fn new(alloc: Global, machine: &Machine, image: &Image) -> Result<Self, NoMemory>
+        requires machine { IsMachine machine.now }
+        requires base { image.now.base ≡ machine.now.memory.base }
+        requires size { image.now.size ≡ machine.now.memory.size }
+        ensures { IfOk result (λ p. p.world ≡ begun_world machine.now.cores (map restarted (new_shards machine.now image.now))) }
+    {
+        let parts = Parts::new(alloc, machine, image)?;
+        match PartsPort::new(alloc, parts, machine.cores) {
+            Ok(port) => Ok(LoggedPort {
+                port,
+                entries: Vec::new(alloc),
+                last: 0,
+                rises: true,
+            }),
+            Err((NoMemory, _parts)) => Err(NoMemory),
+        }
+    }
+
+    /// Makes the port ready for an interval: it then has no access, and room for so many, in the
+    /// memory of `list`.
+    pub fn begin(&mut self, room: usize, mut list: Vec<Entry>) -> Result<(), NoMemory>
+        ensures world { OnOk result (self.new.world ≡ begun_world (length self.old.world.stamps) (map restarted self.old.world.shards)) }
+        ensures none { OnOk result (self.new.entries ≡ []) }
+        ensures room { OnOk result (room ≤ self.new.room) }
+    {
+        list.clear();
+        list.reserve(room)?;
+        self.port.restart();
+        self.entries = list;
+        self.last = 0;
+        self.rises = true;
+        Ok(())
+    }
+
+    /// Names the core whose accesses follow.
+    pub fn choose(&mut self, core: u16)
+        requires { core < length self.old.world.stamps }
+        ensures { self.new ≡ record self.old { core = core } }
+    {
+        self.port.choose(core);
+    }
+
+    /// Which lines leave caches for this request of the chosen core.
+    #[inline(always)]
+    pub fn leaving(&self, request: Request) -> Leaving
+        ensures { result ≡ leaves_shards self.now.world self.now.core request }
+    {
+        self.port.leaving(request)
+    }
+
+    /// Hands out the accesses, in recorded order, and keeps none.
+    pub fn take_sorted(&mut self, alloc: Global) -> Entries
+        requires { HaveDistinctKeys self.old.entries }
+        ensures entries { result ≡ recorded_order self.old.entries }
+        ensures none { self.new.entries ≡ [] }
+        ensures world { self.new.world ≡ self.old.world }
+    {
+        let mut entries = mem::replace(&mut self.entries, Vec::new(alloc));
+        put_in_order(&mut entries, self.rises);
+        self.last = 0;
+        self.rises = true;
+        Entries::of(entries)
+    }
+}
+
+impl Port for LoggedPort {
+    ghost core = { λ p. p.core };
+
+    ghost base = { λ p. base_of p.world };
+
+    ghost size = { λ p. size_of p.world };
+
+    ghost l1i = { λ p. l1i_of p.world };
+
+    ghost room = { λ p. min (room_of p.world) p.room };
+
+    ghost gives = { gives };
+
+    ghost logged = { λ p. Some p.entries };
+
+    #[inline(always)]
+    fn access(&mut self, start: Cycle, request: Request) -> Entry {
+        let entry = self.port.access(start, request);
+        self.rises = rises_to(self.rises, self.last, entry.stamp);
+        self.last = entry.stamp;
+        self.entries.push_reserved(anew(&entry));
+        anew(&entry)
+    }
+}
+
+/// Whether stamps that rose up to the last one, if they did, have risen with the next one too.
+#[inline(always)]
+fn rises_to(rose: bool, last: Stamp, next: Stamp) -> bool
+    ensures { result ≡ (rose && nat_lt last next) }
+{
+    rose && last < next
+}
+
+/// Puts accesses into recorded order. Where their stamps rise, they stand in it.
+fn put_in_order(entries: &mut Vec<Entry>, rises: bool)
+    requires keys { HaveDistinctKeys entries.old.items }
+    requires rising { rises ≡ true → AreRising 0 entries.old.items }
+    ensures { entries.new.items ≡ recorded_order entries.old.items }
+{
+    if !rises {
+        sort(entries);
+    }
+}
+
+/// The same entry, made anew of its fields. An entry that is moved as a whole takes along the
+/// unused bytes between its fields, in pieces that the processor waits for.
+#[inline(always)]
+fn anew(entry: &Entry) -> Entry
+    ensures { result ≡ entry.now }
+{
+    Entry {
+        core: entry.core,
+        stamp: entry.stamp,
+        start: entry.start,
+        request: entry.request,
+        reply: entry.reply,
+        outcome: entry.outcome,
+    }
+}

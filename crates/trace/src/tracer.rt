@@ -1,0 +1,33 @@
+//! Who is told the steps of a run.
+ghost use Rattle.std.specs.Prelude.{◌≡◌, ◌++◌, ◌∷◌, List, [], OnOk};
+ghost use Rattle.trace.specs.Trace.{Step, Accessed, Ended, Executed};
+
+use event_graph::{FiredList, Graph};
+use shard::Leaving;
+use zs_num::{Entries, Entry, NoMemory};
+
+/// Who is told the steps of a run, one after the other.
+pub trait Tracer {
+    /// The steps that it was told.
+    ghost steps: { Self → List Step };
+
+    /// A core executed the instruction at `pc`, and counted it.
+    fn executed(&mut self, core: u16, pc: u64) -> Result<(), NoMemory>
+        ensures { OnOk result (steps self.new ≡ steps self.old ++ Executed core pc ∷ []) };
+
+    /// An access of the instruction at `pc`, be it its fetch, had this entry, and these lines left
+    /// caches for it.
+    fn accessed(&mut self, pc: u64, entry: &Entry, leaving: Leaving) -> Result<(), NoMemory>
+        ensures { OnOk result (steps self.new ≡ steps self.old ++ Accessed pc entry.now leaving ∷ []) };
+
+    /// An interval ended. These are its accesses, their events, when these fired, and how many
+    /// cycles each core waited.
+    fn ended(
+        &mut self,
+        entries: &Entries,
+        graph: &Graph,
+        fired: &FiredList,
+        delays: &[u64],
+    ) -> Result<(), NoMemory>
+        ensures { OnOk result (steps self.new ≡ steps self.old ++ Ended (record { entries = entries.now; events = graph.now; fired = fired.now; delays = delays.now }) ∷ []) };
+}
