@@ -1,0 +1,11 @@
+pub mod AtTables
+pub mod Instructions
+pub mod Leaving
+pub mod Lists
+pub mod NextLine
+pub mod PartsMore
+pub mod Right
+pub mod RowsMore
+pub mod Serving
+pub mod StepsMore
+pub mod Walks

@@ -1,0 +1,12 @@
+pub mod Contributions
+pub mod Copies
+pub mod CopyTables
+pub mod Executed
+pub mod Intervals
+pub mod Makers
+pub mod Parts
+pub mod Profiled
+pub mod Rows
+pub mod Tables
+pub mod Tallies
+pub mod Waits

@@ -1,0 +1,20 @@
+//! What a step adds to a profile.
+use crate::tally::Tally;
+
+/// What a step adds: to which core, to the instruction at which address, and to which line.
+#[derive(Clone, Copy)]
+pub struct Contribution {
+    pub core: u16,
+    pub pc: u64,
+    pub line: u64,
+    pub tally: Tally,
+}
+
+/// An access that makes events: of which core it is, of the instruction at which address, and to
+/// which line.
+#[derive(Clone, Copy)]
+pub struct Maker {
+    pub core: u16,
+    pub pc: u64,
+    pub line: u64,
+}
