@@ -21,7 +21,7 @@ use Rattle.access_record.specs.Laws.{beyond_hits, kept_of}
 use Rattle.access_record.specs.Records.{IsInReach, MakeSameEvents, RecordState, entry_of, record_of}
 
 abbrev first_byte : (fetch : Bool) → (line : ℕ) → Request
-first_byte fetch line = if fetch then Fetch (line * 64) else Load (line * 64) 1
+first_byte fetch line = if fetch then Fetch (line * 64) else Load 1 (line * 64)
 
 line_back : (fetch : Bool) (line : ℕ) → line_of (first_byte fetch line) ≡ line
 line_back true line = omega arith

@@ -30,7 +30,7 @@ entry_of core begin base r = record {
   core = core;
   stamp = 0;
   start = begin + r.start;
-  request = (if r.fetch then Fetch ((base / 64 + r.line) * 64) else Load ((base / 64 + r.line) * 64) 1);
+  request = (if r.fetch then Fetch ((base / 64 + r.line) * 64) else Load 1 ((base / 64 + r.line) * 64));
   reply = 0;
   outcome = r.outcome;
 }

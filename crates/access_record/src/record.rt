@@ -67,7 +67,7 @@ impl Record {
 /// The load or the fetch of a byte.
 #[inline(always)]
 fn request(addr: u64, fetch: bool) -> Request
-    ensures { result ≡ (if fetch then Fetch addr else Load addr 1) }
+    ensures { result ≡ (if fetch then Fetch addr else Load 1 addr) }
 {
     if fetch {
         Request::Fetch { addr }

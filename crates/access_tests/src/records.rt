@@ -15,7 +15,7 @@ const MISS: Outcome = Outcome::Miss { dirty_victim: true };
 
 /// A load of a core.
 fn load(core: u16, stamp: Stamp, addr: u64, outcome: Outcome) -> Entry
-    ensures { result ≡ record { core = core; stamp = stamp; start = 10005; request = Load addr 8; reply = 7; outcome = outcome } }
+    ensures { result ≡ record { core = core; stamp = stamp; start = 10005; request = Load 8 addr; reply = 7; outcome = outcome } }
 {
     Entry {
         core,
@@ -66,7 +66,7 @@ fn one_access(
     addr: u64,
 ) -> Result<BankLog, NoMemory>
     requires { bank ≡ addr / 64 % 2 }
-    ensures { IfOk result (λ log. log ≡ record { core = core; banks = 2; entries = record { core = core; stamp = stamp; start = 10005; request = Load addr 8; reply = 7; outcome = Hit } ∷ []; room = 1 }) }
+    ensures { IfOk result (λ log. log ≡ record { core = core; banks = 2; entries = record { core = core; stamp = stamp; start = 10005; request = Load 8 addr; reply = 7; outcome = Hit } ∷ []; room = 1 }) }
 {
     let mut log = BankLog::with_room(alloc, core, 2, 1)?;
     log.put(bank, &load(core, stamp, addr, Outcome::Hit));

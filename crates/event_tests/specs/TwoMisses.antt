@@ -7,7 +7,7 @@ use Rattle.zs_num.specs.declared.request.Request.TheVariants.{Load}
 
 -- a load of line 1088
 abbrev pub load_of : (core start : ℕ) → Outcome → Entry
-load_of core start outcome = record { core = core; stamp = 1; start = start; request = Load 69632 8; reply = 0; outcome = outcome }
+load_of core start outcome = record { core = core; stamp = 1; start = start; request = Load 8 69632; reply = 0; outcome = outcome }
 
 -- one that misses, with a clean victim
 abbrev pub miss_of : (core start : ℕ) → Entry

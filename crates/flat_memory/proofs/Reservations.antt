@@ -37,10 +37,10 @@ after_conditional memory core other addr width value true apart =
 after_conditional memory core other addr width value false apart = others_keep memory core other None apart
 
 pub others_end_by_writes : OthersEndByWrites
-others_end_by_writes memory core other (Load addr width) apart = refl
-others_end_by_writes memory core other (Store addr width value) apart = after_others memory core other addr width value apart
-others_end_by_writes memory core other (Lr addr width) apart = others_keep memory core other (Some (record { addr = addr; width = width })) apart
-others_end_by_writes memory core other (Sc addr width value paired) apart =
+others_end_by_writes memory core other (Load width addr) apart = refl
+others_end_by_writes memory core other (Store width addr value) apart = after_others memory core other addr width value apart
+others_end_by_writes memory core other (Lr width addr) apart = others_keep memory core other (Some (record { addr = addr; width = width })) apart
+others_end_by_writes memory core other (Sc width paired addr value) apart =
     after_conditional memory core other addr width value (is_reserved memory other addr width) apart
-others_end_by_writes memory core other (Amo op addr width value) apart = after_others memory core other addr width _ apart
+others_end_by_writes memory core other (Amo width op addr value) apart = after_others memory core other addr width _ apart
 others_end_by_writes memory core other (Fetch addr) apart = refl

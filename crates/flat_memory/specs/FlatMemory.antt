@@ -66,21 +66,21 @@ reserving memory core reservation = record memory { reservations = slice_set mem
 -- What an access of a core is answered: a load, a load-reserved and an atomic operation the number, a store and a fetch
 -- 0, and a store-conditional 0 where the core has reserved the bytes and else 1.
 abbrev pub memory_reply : MemoryState → (core : ℕ) → Request → ℕ
-memory_reply memory core (Load addr width) = memory_number memory addr width
-memory_reply memory core (Store addr width value) = 0
-memory_reply memory core (Lr addr width) = memory_number memory addr width
-memory_reply memory core (Sc addr width value paired) = if is_reserved memory core addr width then 0 else 1
-memory_reply memory core (Amo op addr width value) = memory_number memory addr width
+memory_reply memory core (Load width addr) = memory_number memory addr width
+memory_reply memory core (Store width addr value) = 0
+memory_reply memory core (Lr width addr) = memory_number memory addr width
+memory_reply memory core (Sc width paired addr value) = if is_reserved memory core addr width then 0 else 1
+memory_reply memory core (Amo width op addr value) = memory_number memory addr width
 memory_reply memory core (Fetch addr) = 0
 
 -- The memory after an access. A store-conditional stores only where the core has reserved the bytes, and ends what it
 -- has reserved in any case. A fetch changes nothing.
 abbrev pub memory_after : MemoryState → (core : ℕ) → Request → MemoryState
-memory_after memory core (Load addr width) = memory
-memory_after memory core (Store addr width value) = written memory core addr width value
-memory_after memory core (Lr addr width) = reserving memory core (Some (record { addr = addr; width = width }))
-memory_after memory core (Sc addr width value paired) =
+memory_after memory core (Load width addr) = memory
+memory_after memory core (Store width addr value) = written memory core addr width value
+memory_after memory core (Lr width addr) = reserving memory core (Some (record { addr = addr; width = width }))
+memory_after memory core (Sc width paired addr value) =
     if is_reserved memory core addr width then reserving (written memory core addr width value) core None else reserving memory core None
-memory_after memory core (Amo op addr width value) =
+memory_after memory core (Amo width op addr value) =
     written memory core addr width (new_number op width (memory_number memory addr width) value)
 memory_after memory core (Fetch addr) = memory

@@ -14,24 +14,24 @@ pub record IsThere (memory : MemoryState) (addr width : ℕ) : Type 0 where
 -- a load of what a store stored gives the low bytes of the number
 abbrev pub LoadGivesWhatWasStored : Type 0
 LoadGivesWhatWasStored = (memory : MemoryState) (core other addr width value : ℕ) → IsThere memory addr width
-    → memory_reply (memory_after memory core (Store addr width value)) other (Load addr width) ≡ value % 256 ^ width
+    → memory_reply (memory_after memory core (Store width addr value)) other (Load width addr) ≡ value % 256 ^ width
 
 -- no other byte changes
 abbrev pub StoreLeavesOtherBytes : Type 0
 StoreLeavesOtherBytes = (memory : MemoryState) (core addr width value i : ℕ) → IsThere memory addr width
     → (i < addr - memory.base) ⊎ (addr - memory.base + width ≤ i)
-    → slice_index (memory_after memory core (Store addr width value)).bytes i ≡ slice_index memory.bytes i
+    → slice_index (memory_after memory core (Store width addr value)).bytes i ≡ slice_index memory.bytes i
 
 -- a store-conditional after a load-reserved of the same bytes, with nothing between, stores
 abbrev pub ConditionalStoresAfterReserved : Type 0
 ConditionalStoresAfterReserved = (memory : MemoryState) (core addr width value : ℕ) (paired : _) → core < length memory.reservations
-    → memory_reply (memory_after memory core (Lr addr width)) core (Sc addr width value paired) ≡ 0
+    → memory_reply (memory_after memory core (Lr width addr)) core (Sc width paired addr value) ≡ 0
 
 -- and not where another core stored to the line between
 abbrev pub ConditionalFailsAfterOthersStore : Type 0
 ConditionalFailsAfterOthersStore = (memory : MemoryState) (core other addr width value place size number : ℕ) (paired : _)
     → core < length memory.reservations → other ≢ core → line_at place ≡ line_at addr
-    → memory_reply (memory_after (memory_after memory core (Lr addr width)) other (Store place size number)) core (Sc addr width value paired) ≡ 1
+    → memory_reply (memory_after (memory_after memory core (Lr width addr)) other (Store size place number)) core (Sc width paired addr value) ≡ 1
 
 -- what a core has reserved
 abbrev pub reservation_of : MemoryState → (core : ℕ) → Option Reservation
@@ -40,11 +40,11 @@ reservation_of memory core = slice_index_or memory.reservations core None
 -- whether an access writes: a store and an atomic operation do, and a store-conditional where the core has reserved the
 -- bytes
 abbrev pub does_write : MemoryState → (core : ℕ) → Request → Bool
-does_write memory core (Load addr width) = false
-does_write memory core (Store addr width value) = true
-does_write memory core (Lr addr width) = false
-does_write memory core (Sc addr width value paired) = is_reserved memory core addr width
-does_write memory core (Amo op addr width value) = true
+does_write memory core (Load width addr) = false
+does_write memory core (Store width addr value) = true
+does_write memory core (Lr width addr) = false
+does_write memory core (Sc width paired addr value) = is_reserved memory core addr width
+does_write memory core (Amo width op addr value) = true
 does_write memory core (Fetch addr) = false
 
 -- what a core has reserved ends where another core writes to its line, and by nothing else that another core does

@@ -103,8 +103,8 @@ impl FlatMemory {
         requires few { width ≤ 8 }
         requires begins { self.old.base ≤ addr }
         requires ends { addr + width ≤ self.old.base + length self.old.bytes }
-        ensures reply { (paired : _) → result ≡ memory_reply self.old core (Request.Sc addr width value paired) }
-        ensures after { (paired : _) → self.new ≡ memory_after self.old core (Request.Sc addr width value paired) }
+        ensures reply { (paired : _) → result ≡ memory_reply self.old core (Request.Sc width paired addr value) }
+        ensures after { (paired : _) → self.new ≡ memory_after self.old core (Request.Sc width paired addr value) }
         ensures base { self.new.base ≡ self.old.base }
         ensures size { length self.new.bytes ≡ length self.old.bytes }
         ensures cores { length self.new.reservations ≡ length self.old.reservations }

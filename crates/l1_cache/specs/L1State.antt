@@ -157,11 +157,11 @@ may_write (Some copy) = copy.free
 
 -- a load of a line that is there, a store to one that is free to write, and a fetch of a line of the instruction cache
 unfoldable pub is_private : L1State → Request → Bool
-is_private l1 (Load addr width) = is_some (copy_at l1 (line_at addr))
-is_private l1 (Store addr width value) = may_write (copy_at l1 (line_at addr))
-is_private l1 (Lr addr width) = false
-is_private l1 (Sc addr width value paired) = false
-is_private l1 (Amo op addr width value) = false
+is_private l1 (Load width addr) = is_some (copy_at l1 (line_at addr))
+is_private l1 (Store width addr value) = may_write (copy_at l1 (line_at addr))
+is_private l1 (Lr width addr) = false
+is_private l1 (Sc width paired addr value) = false
+is_private l1 (Amo width op addr value) = false
 is_private l1 (Fetch addr) = has_instructions l1 (line_at addr)
 
 abbrev pub number_of : Option Copy → (place width : ℕ) → ℕ
@@ -169,11 +169,11 @@ number_of None place width = 0
 number_of (Some copy) place width = number_in copy.bytes place width
 
 unfoldable pub private_reply : L1State → Request → ℕ
-private_reply l1 (Load addr width) = number_of (copy_at l1 (line_at addr)) (place_in_line addr) width
-private_reply l1 (Store addr width value) = 0
-private_reply l1 (Lr addr width) = 0
-private_reply l1 (Sc addr width value paired) = 0
-private_reply l1 (Amo op addr width value) = 0
+private_reply l1 (Load width addr) = number_of (copy_at l1 (line_at addr)) (place_in_line addr) width
+private_reply l1 (Store width addr value) = 0
+private_reply l1 (Lr width addr) = 0
+private_reply l1 (Sc width paired addr value) = 0
+private_reply l1 (Amo width op addr value) = 0
 private_reply l1 (Fetch addr) = 0
 
 -- a store that was served elsewhere writes to a line that is there, free to write from then on or not
@@ -186,10 +186,10 @@ abbrev pub stored : (place width value : ℕ) → Copy → Copy
 stored place width value copy = record copy { letter = M; bytes = with_number copy.bytes place width value }
 
 unfoldable pub private_after : L1State → Request → L1State
-private_after l1 (Load addr width) = used_in (line_at addr) l1
-private_after l1 (Store addr width value) =
+private_after l1 (Load width addr) = used_in (line_at addr) l1
+private_after l1 (Store width addr value) =
     option_map_or (λ copy. kept_first_in (line_at addr) (stored (place_in_line addr) width value copy) l1) (copy_at l1 (line_at addr)) l1
-private_after l1 (Lr addr width) = l1
-private_after l1 (Sc addr width value paired) = l1
-private_after l1 (Amo op addr width value) = l1
+private_after l1 (Lr width addr) = l1
+private_after l1 (Sc width paired addr value) = l1
+private_after l1 (Amo width op addr value) = l1
 private_after l1 (Fetch addr) = instruction_used_in (line_at addr) l1

@@ -133,9 +133,9 @@ impl L1 {
         requires some { 1 ≤ width }
         requires few { width ≤ 8 }
         requires within { place_in_line addr + width ≤ line_bytes }
-        ensures private { IfSome result (λ reply. is_private self.old (Load addr width) ≡ true) }
-        ensures reply { IfSome result (λ reply. reply ≡ private_reply self.old (Load addr width)) }
-        ensures after { IfSome result (λ reply. self.new ≡ private_after self.old (Load addr width)) }
+        ensures private { IfSome result (λ reply. is_private self.old (Load width addr) ≡ true) }
+        ensures reply { IfSome result (λ reply. reply ≡ private_reply self.old (Load width addr)) }
+        ensures after { IfSome result (λ reply. self.new ≡ private_after self.old (Load width addr)) }
         ensures none { IfNone result (self.new ≡ self.old) }
     {
         let place = self.ways.near(addr / LINE)?;
@@ -153,9 +153,9 @@ impl L1 {
     fn store_near<T>(&mut self, addr: u64, width: u8, value: u64) -> Option<u64>
         requires few { width ≤ 8 }
         requires within { place_in_line addr + width ≤ line_bytes }
-        ensures private { IfSome result (λ reply. is_private self.old (Store addr width value) ≡ true) }
-        ensures reply { IfSome result (λ reply. reply ≡ private_reply self.old (Store addr width value)) }
-        ensures after { IfSome result (λ reply. self.new ≡ private_after self.old (Store addr width value)) }
+        ensures private { IfSome result (λ reply. is_private self.old (Store width addr value) ≡ true) }
+        ensures reply { IfSome result (λ reply. reply ≡ private_reply self.old (Store width addr value)) }
+        ensures after { IfSome result (λ reply. self.new ≡ private_after self.old (Store width addr value)) }
         ensures none { IfNone result (self.new ≡ self.old) }
     {
         let place = self.ways.near_to_write(addr / LINE)?;
@@ -175,9 +175,9 @@ impl L1 {
         requires some { 1 ≤ width }
         requires few { width ≤ 8 }
         requires within { place_in_line addr + width ≤ line_bytes }
-        ensures private { is_some result ≡ is_private self.old (Load addr width) }
-        ensures reply { IfSome result (λ reply. reply ≡ private_reply self.old (Load addr width)) }
-        ensures after { self.new ≡ (if is_private self.old (Load addr width) then private_after self.old (Load addr width) else self.old) }
+        ensures private { is_some result ≡ is_private self.old (Load width addr) }
+        ensures reply { IfSome result (λ reply. reply ≡ private_reply self.old (Load width addr)) }
+        ensures after { self.new ≡ (if is_private self.old (Load width addr) then private_after self.old (Load width addr) else self.old) }
     {
         let place = self.ways.meet(addr / LINE)?;
         let age = next_age(
@@ -194,9 +194,9 @@ impl L1 {
     fn store<T>(&mut self, addr: u64, width: u8, value: u64) -> Option<u64>
         requires few { width ≤ 8 }
         requires within { place_in_line addr + width ≤ line_bytes }
-        ensures private { is_some result ≡ is_private self.old (Store addr width value) }
-        ensures reply { IfSome result (λ reply. reply ≡ private_reply self.old (Store addr width value)) }
-        ensures after { self.new ≡ (if is_private self.old (Store addr width value) then private_after self.old (Store addr width value) else self.old) }
+        ensures private { is_some result ≡ is_private self.old (Store width addr value) }
+        ensures reply { IfSome result (λ reply. reply ≡ private_reply self.old (Store width addr value)) }
+        ensures after { self.new ≡ (if is_private self.old (Store width addr value) then private_after self.old (Store width addr value) else self.old) }
     {
         let place = self.ways.meet_to_write(addr / LINE)?;
         let age = next_age(

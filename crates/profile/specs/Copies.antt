@@ -45,20 +45,20 @@ changes_others (Miss dirty) = false
 
 -- it has to be alone with the line
 abbrev pub writes : Request → Bool
-writes (Load addr width) = false
-writes (Store addr width value) = true
-writes (Lr addr width) = false
-writes (Sc addr width value paired) = true
-writes (Amo op addr width value) = true
+writes (Load width addr) = false
+writes (Store width addr value) = true
+writes (Lr width addr) = false
+writes (Sc width paired addr value) = true
+writes (Amo width op addr value) = true
 writes (Fetch addr) = false
 
 -- it reads data
 abbrev pub reads : Request → Bool
-reads (Load addr width) = true
-reads (Store addr width value) = false
-reads (Lr addr width) = true
-reads (Sc addr width value paired) = false
-reads (Amo op addr width value) = false
+reads (Load width addr) = true
+reads (Store width addr value) = false
+reads (Lr width addr) = true
+reads (Sc width paired addr value) = false
+reads (Amo width op addr value) = false
 reads (Fetch addr) = false
 
 abbrev pub invalidates : Entry → Bool

@@ -231,11 +231,11 @@ unfolding needs_fetch
 fetches_not image core = refl
 
 is_no_fetch : (r : Request) → MayFetch false r → is_fetch r ≡ false
-is_no_fetch (request.Load addr width) may = refl
-is_no_fetch (request.Store addr width value) may = refl
-is_no_fetch (request.Lr addr width) may = refl
-is_no_fetch (request.Sc addr width value paired) may = refl
-is_no_fetch (request.Amo op addr width value) may = refl
+is_no_fetch (request.Load width addr) may = refl
+is_no_fetch (request.Store width addr value) may = refl
+is_no_fetch (request.Lr width addr) may = refl
+is_no_fetch (request.Sc width paired addr value) may = refl
+is_no_fetch (request.Amo width op addr value) may = refl
 is_no_fetch (request.Fetch addr) may = cc
 
 ends_otherwise : (ending : Ending) (later : List Request) → FetchesAlone false ending later → IsNoFetch ending

@@ -39,23 +39,23 @@ lie-in core memory addr width base size there =
 
 -- ---- requests
 
-store-request : (addr width value : ℕ) → is_in_line addr width ≡ true → store_requests addr width value ≡ Store addr width (low_bytes width value) ∷ []
+store-request : (addr width value : ℕ) → is_in_line addr width ≡ true → store_requests addr width value ≡ Store width addr (low_bytes width value) ∷ []
 unfolding store_requests
 store-request addr width value line = rw line refl
 
 store-two_requests : (addr width value : ℕ) → is_in_line addr width ≡ false
     → store_requests addr width value
-    ≡ Store addr (left_in_line addr) (low_bytes (left_in_line addr) value)
-    ∷ Store (addr + left_in_line addr) (beyond addr width) (low_bytes (beyond addr width) (high_bytes (left_in_line addr) value)) ∷ []
+    ≡ Store (left_in_line addr) addr (low_bytes (left_in_line addr) value)
+    ∷ Store (beyond addr width) (addr + left_in_line addr) (low_bytes (beyond addr width) (high_bytes (left_in_line addr) value)) ∷ []
 unfolding store_requests
 store-two_requests addr width value line = rw line refl
 
-load-request : (addr width : ℕ) → is_in_line addr width ≡ true → load_requests addr width ≡ Load addr width ∷ []
+load-request : (addr width : ℕ) → is_in_line addr width ≡ true → load_requests addr width ≡ Load width addr ∷ []
 unfolding load_requests
 load-request addr width line = rw line refl
 
 load-two_requests : (addr width : ℕ) → is_in_line addr width ≡ false
-    → load_requests addr width ≡ Load addr (left_in_line addr) ∷ Load (addr + left_in_line addr) (beyond addr width) ∷ []
+    → load_requests addr width ≡ Load (left_in_line addr) addr ∷ Load (beyond addr width) (addr + left_in_line addr) ∷ []
 unfolding load_requests
 load-two_requests addr width line = rw line refl
 
@@ -101,7 +101,7 @@ module _ (law : (addr width value : ℕ) → flat_map bytes_stored (store_reques
       let addr = address i core in
       let value = register core i.rs2 in
       let begins = stores-begin width i core there ∙ ap (λ requests. goes_through requests [] ToNothing core) (store-request addr width value line) in
-      let is = ap (λ c. after_all_requests number (record { core = c; memory = memory })) begins ∙ one-access number (Store addr width (low_bytes width value)) ToNothing core memory in
+      let is = ap (λ c. after_all_requests number (record { core = c; memory = memory })) begins ∙ one-access number (Store width addr (low_bytes width value)) ToNothing core memory in
       record {
         core_is = ap (λ (s : CoreInMemory). s.core) is ∙ ap (λ c. goes_on c 0 0) (same-core core free);
         base_is = ap (λ (s : CoreInMemory). s.memory.base) is;
@@ -124,7 +124,7 @@ module _ (law : (addr width value : ℕ) → flat_map bytes_stored (store_reques
       let width_is : lower + upper ≡ width = both-parts addr width line in
       let begins = stores-begin width i core there ∙ ap (λ requests. goes_through requests [] ToNothing core) (store-two_requests addr width value line) in
       let is = ap (λ c. after_all_requests number (record { core = c; memory = memory })) begins
-      ∙ two-accesses number (Store addr lower first) (Store (addr + lower) upper last) ToNothing core memory in
+      ∙ two-accesses number (Store lower addr first) (Store upper (addr + lower) last) ToNothing core memory in
       let place_is : addr + lower - memory.base ≡ place + lower = omega (arith, lies.begins) in
       record {
         core_is = ap (λ (s : CoreInMemory). s.core) is ∙ ap (λ c. goes_on c 0 0) (same-core core free);
@@ -187,15 +187,15 @@ module _ (law : (addr width : ℕ) (bytes : List ℕ) → length bytes ≡ width
   load-once number width signed i core memory few free there lies bytes line =
       let addr = address i core in
       let begins = loads-begin width signed i core there ∙ ap (λ requests. goes_through requests [] (to_register i width signed) core) (load-request addr width line) in
-      let is = ap (λ c. after_all_requests number (record { core = c; memory = memory })) begins ∙ one-access number (Load addr width) (to_register i width signed) core memory in
+      let is = ap (λ c. after_all_requests number (record { core = c; memory = memory })) begins ∙ one-access number (Load width addr) (to_register i width signed) core memory in
       let here : memory_number memory addr width ≡ number_of_bytes (take width (read memory addr width)) =
       number-read memory.bytes (addr - memory.base) width lies.ends
       ∙ ap number_of_bytes (sym (take-take width width (drop (addr - memory.base) memory.bytes) (omega arith))) in
-      let joins : joined (reply_to (Load addr width) (memory_number memory addr width) ∷ []) ≡ number_of_bytes (read memory addr width) =
-      ap (λ n. joined (reply_to (Load addr width) n ∷ [])) here
+      let joins : joined (reply_to (Load width addr) (memory_number memory addr width) ∷ []) ≡ number_of_bytes (read memory addr width) =
+      ap (λ n. joined (reply_to (Load width addr) n ∷ [])) here
       ∙ ap (λ requests. joined (replies_loaded requests (read memory addr width))) (sym (load-request addr width line))
       ∙ law addr width (read memory addr width) (read-length memory addr width lies) bytes in
-      is ∙ ends-load number width signed i core memory few free lies bytes (reply_to (Load addr width) (memory_number memory addr width) ∷ []) joins
+      is ∙ ends-load number width signed i core memory few free lies bytes (reply_to (Load width addr) (memory_number memory addr width) ∷ []) joins
 
   load-twice : (number width : ℕ) (signed : Bool) (i : Inst) (core : CoreState) (memory : MemoryState) → width ≤ 8 → core.instruction ≡ None
       → is_in_memory core.memory (address i core) width ≡ true → LieIn memory (address i core) width → All (λ b. b < 256) (read memory (address i core) width)
@@ -211,7 +211,7 @@ module _ (law : (addr width : ℕ) (bytes : List ℕ) → length bytes ≡ width
       let width_is : lower + upper ≡ width = both-parts addr width line in
       let begins = loads-begin width signed i core there ∙ ap (λ requests. goes_through requests [] (to_register i width signed) core) (load-two_requests addr width line) in
       let is = ap (λ c. after_all_requests number (record { core = c; memory = memory })) begins
-      ∙ two-accesses number (Load addr lower) (Load (addr + lower) upper) (to_register i width signed) core memory in
+      ∙ two-accesses number (Load lower addr) (Load upper (addr + lower)) (to_register i width signed) core memory in
       let first : memory_number memory addr lower ≡ number_of_bytes (take lower (read memory addr width)) =
       number-read memory.bytes place lower (omega (arith, lies.ends, width_is)) ∙ ap number_of_bytes (sym (take-take lower width rest (omega (arith, width_is)))) in
       let place_is : addr + lower - memory.base ≡ place + lower = omega (arith, lies.begins) in
@@ -220,12 +220,12 @@ module _ (law : (addr width : ℕ) (bytes : List ℕ) → length bytes ≡ width
       ap (λ n. number_in memory.bytes n upper) place_is ∙ number-read memory.bytes (place + lower) upper (omega (arith, lies.ends, width_is))
       ∙ ap (λ list. number_of_bytes (take upper list)) (sym (drop-drop lower place memory.bytes))
       ∙ ap number_of_bytes (sym (ap (take upper) above ∙ take-take upper upper (drop lower rest) (omega arith))) in
-      let joins : joined (reply_to (Load addr lower) (memory_number memory addr lower) ∷ reply_to (Load (addr + lower) upper) (memory_number memory (addr + lower) upper) ∷ []) ≡ number_of_bytes (read memory addr width) =
-      ap (λ n. joined (reply_to (Load addr lower) n ∷ reply_to (Load (addr + lower) upper) (memory_number memory (addr + lower) upper) ∷ [])) first
-      ∙ ap (λ n. joined (reply_to (Load addr lower) (number_of_bytes (take lower (read memory addr width))) ∷ reply_to (Load (addr + lower) upper) n ∷ [])) last
+      let joins : joined (reply_to (Load lower addr) (memory_number memory addr lower) ∷ reply_to (Load upper (addr + lower)) (memory_number memory (addr + lower) upper) ∷ []) ≡ number_of_bytes (read memory addr width) =
+      ap (λ n. joined (reply_to (Load lower addr) n ∷ reply_to (Load upper (addr + lower)) (memory_number memory (addr + lower) upper) ∷ [])) first
+      ∙ ap (λ n. joined (reply_to (Load lower addr) (number_of_bytes (take lower (read memory addr width))) ∷ reply_to (Load upper (addr + lower)) n ∷ [])) last
       ∙ ap (λ requests. joined (replies_loaded requests (read memory addr width))) (sym (load-two_requests addr width line))
       ∙ law addr width (read memory addr width) (read-length memory addr width lies) bytes in
-      is ∙ ends-load number width signed i core memory few free lies bytes (reply_to (Load addr lower) (memory_number memory addr lower) ∷ reply_to (Load (addr + lower) upper) (memory_number memory (addr + lower) upper) ∷ []) joins
+      is ∙ ends-load number width signed i core memory few free lies bytes (reply_to (Load lower addr) (memory_number memory addr lower) ∷ reply_to (Load upper (addr + lower)) (memory_number memory (addr + lower) upper) ∷ []) joins
 
   load-by_line : (number width : ℕ) (signed : Bool) (i : Inst) (core : CoreState) (memory : MemoryState) → width ≤ 8 → core.instruction ≡ None
       → is_in_memory core.memory (address i core) width ≡ true → LieIn memory (address i core) width → All (λ b. b < 256) (read memory (address i core) width)

@@ -80,7 +80,7 @@ reserves : (number : ℕ) (i : Inst) (width : ℕ) (s : CoreInMemory) → IsLoad
 unfolding ended
 reserves number i width s is_name there aligned in_memory =
     let addr = register s.core i.rs1 in
-    let request = Lr addr width in
+    let request = Lr width addr in
     let reply = reply_to request (memory_reply s.memory number request) in
     let core = record s.core { pairing = pairing_after s.core.pairing request; instruction = None } in
     let value = received (record { rd = i.rd; width = width; signed = true }) (reply ∷ []) in
@@ -122,11 +122,11 @@ reads-as core (suc n) value zero_is there =
 
 -- what memory answers and keeps, by whether the core has still reserved the bytes
 replies-by : (memory : MemoryState) (number addr width value : ℕ) (paired stores : Bool) → is_reserved memory number addr width ≡ stores
-    → memory_reply memory number (Sc addr width value paired) ≡ cond stores 0 1
+    → memory_reply memory number (Sc width paired addr value) ≡ cond stores 0 1
 replies-by memory number addr width value paired stores e = ap (λ b. cond b 0 1) e
 
 keeps-by : (memory : MemoryState) (number addr width value : ℕ) (paired stores : Bool) → is_reserved memory number addr width ≡ stores
-    → (memory_after memory number (Sc addr width value paired)).bytes ≡ cond stores (with_number memory.bytes (addr - memory.base) width value) memory.bytes
+    → (memory_after memory number (Sc width paired addr value)).bytes ≡ cond stores (with_number memory.bytes (addr - memory.base) width value) memory.bytes
 unfolding written
 keeps-by memory number addr width value paired true e = rw e refl
 keeps-by memory number addr width value paired false e = rw e refl
@@ -147,7 +147,7 @@ conditions writes number i width s addr stores is_name same aligned in_memory he
     let here = register s.core i.rs1 in
     let value = register s.core i.rs2 in
     let paired = is_paired s.core.pairing here width in
-    let request = Sc here width (low_bytes width value) paired in
+    let request = Sc width paired here (low_bytes width value) in
     let reply = memory_reply s.memory number request in
     let core = record s.core { pairing = pairing_after s.core.pairing request; instruction = None } in
     let here_aligned : here % width ≡ 0 = ap (λ (a : ℕ). a % width) same ∙ aligned in
@@ -217,5 +217,5 @@ module _ (law : OthersEndByWrites) (writes : (addr width value : ℕ) → flat_m
   pub store_between-ends_pair : StoreBetweenEndsPair
   store_between-ends_pair number other addr size value reserve store s width p line some =
       let here = register s.core reserve.rs1 in
-      let ended : is_ended number reserve ((other, Store addr size value) ∷ []) store s ≡ true = rw (eq-eqb (here / 64) (addr / 64) (sym line)) refl in
-      (write-ends_pair law writes number reserve ((other, Store addr size value) ∷ []) store s width p ended some).0
+      let ended : is_ended number reserve ((other, Store size addr value) ∷ []) store s ≡ true = rw (eq-eqb (here / 64) (addr / 64) (sym line)) refl in
+      (write-ends_pair law writes number reserve ((other, Store size addr value) ∷ []) store s width p ended some).0

@@ -23,12 +23,12 @@ length-one_of false core addr marks = refl
 
 length-marks_after : (marks : List (Option Reservation)) (core : ℕ) (request : Request) → length (marks_after marks core request) ≡ length marks
 unfolding marks_after
-length-marks_after marks core (Load addr width) = refl
-length-marks_after marks core (Store addr width value) = length-after_write core addr marks
-length-marks_after marks core (Lr addr width) = length-set marks core _
-length-marks_after marks core (Sc addr width value paired) =
+length-marks_after marks core (Load width addr) = refl
+length-marks_after marks core (Store width addr value) = length-after_write core addr marks
+length-marks_after marks core (Lr width addr) = length-set marks core _
+length-marks_after marks core (Sc width paired addr value) =
     length-set (cond (does_store marks core addr width paired) (after_write core addr marks) marks) core None ∙ length-one_of (does_store marks core addr width paired) core addr marks
-length-marks_after marks core (Amo op addr width value) = length-after_write core addr marks
+length-marks_after marks core (Amo width op addr value) = length-after_write core addr marks
 length-marks_after marks core (Fetch addr) = refl
 
 module _ (shard : ShardState) (e : Entry) where

@@ -112,7 +112,7 @@ abbrev pub StoresAreWhole : Type 0
 StoresAreWhole = (number : ℕ) (store : Inst) (width : ℕ) (s : CoreInMemory)
     → IsStore store.name width → ComesToNext s → AreThere s (address store s.core) width
     → ((after_executing number store s).core ≡ goes_on s.core 0 0)
-    × ((after_executing number store s).memory.bytes ≡ (memory_after s.memory number (Store (address store s.core) width (register s.core store.rs2))).bytes)
+    × ((after_executing number store s).memory.bytes ≡ (memory_after s.memory number (Store width (address store s.core) (register s.core store.rs2))).bytes)
 
 -- A load of the bytes that a store stored gives rd the lowest bytes of rs2, sign-extended or zero-extended.
 abbrev pub StoredIsLoaded : Type 0
@@ -185,7 +185,7 @@ module _ (number : ℕ) (reserve : Inst) (others : List (ℕ × Request)) (store
   PairStores = (width : ℕ) → IsPair width → is_ended ≡ false
       → (register after_pair.core store.rd ≡ 0)
       × (after_pair.memory.bytes
-      ≡ (memory_after between.memory number (Store (register s.core reserve.rs1) width (register reserved.core store.rs2))).bytes)
+      ≡ (memory_after between.memory number (Store width (register s.core reserve.rs1) (register reserved.core store.rs2))).bytes)
 
   -- Where one of them does, rd gets 1, and nothing is stored.
   abbrev pub WriteBetweenEndsPair : Type 0
@@ -200,5 +200,5 @@ PairAloneStores = (number : ℕ) (reserve store : Inst) (s : CoreInMemory) (widt
 -- And a pair with one store of another core to its line between does not.
 abbrev pub StoreBetweenEndsPair : Type 0
 StoreBetweenEndsPair = (number other addr size value : ℕ) (reserve store : Inst) (s : CoreInMemory) (width : ℕ)
-    → IsPair number reserve ((other, Store addr size value) ∷ []) store s width → line_at addr ≡ line_at (register s.core reserve.rs1) → store.rd ≢ 0
-    → register (after_pair number reserve ((other, Store addr size value) ∷ []) store s).core store.rd ≡ 1
+    → IsPair number reserve ((other, Store size addr value) ∷ []) store s width → line_at addr ≡ line_at (register s.core reserve.rs1) → store.rd ≢ 0
+    → register (after_pair number reserve ((other, Store size addr value) ∷ []) store s).core store.rd ≡ 1

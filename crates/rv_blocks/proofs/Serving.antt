@@ -90,8 +90,8 @@ completes (Store addr width value) reply registers pc next follows core idle =
 module _ {Port : Type 0} (memory : MemoryRange) (gives : Port → (start : ℕ) → Request → Entry → Port → Type 0) (core_of : Port → ℕ) (logged_of : Port → Option (List Entry))
     (slot : Slot) (start : ℕ) (registers : List ℕ) (port : Port) where
   pub serves_load : (width reply value : ℕ) (after : List ℕ) (port_after : Port) → slot.op ≡ op.Load → width ≡ width_of slot.name → is_single memory (address_by slot registers) width ≡ true
-      → IsHit gives core_of logged_of port start (request.Load (address_by slot registers) width) reply port_after
-      → value ≡ received (record { rd = 0; width = width; signed = is_signed slot.name }) (reply_to (request.Load 0 width) reply ∷ [])
+      → IsHit gives core_of logged_of port start (request.Load width (address_by slot registers)) reply port_after
+      → value ≡ received (record { rd = 0; width = width; signed = is_signed slot.name }) (reply_to (request.Load width 0) reply ∷ [])
       → after ≡ with_register registers slot.rd value
       → IsServed memory gives core_of logged_of slot start registers port after port_after
   serves_load width reply value after port_after load wide single hit number left = record {
@@ -103,7 +103,7 @@ module _ {Port : Type 0} (memory : MemoryRange) (gives : Port → (start : ℕ) 
   }
 
   pub serves_store : (width reply : ℕ) (port_after : Port) → slot.op ≡ op.Store → width ≡ width_of slot.name → is_single memory (address_by slot registers) width ≡ true
-      → IsHit gives core_of logged_of port start (request.Store (address_by slot registers) width (low_bytes width (slice_index registers slot.rs2))) reply port_after
+      → IsHit gives core_of logged_of port start (request.Store width (address_by slot registers) (low_bytes width (slice_index registers slot.rs2))) reply port_after
       → IsServed memory gives core_of logged_of slot start registers port registers port_after
   serves_store width reply port_after store wide single hit = record {
     single = Store (address_by slot registers) (width_of slot.name) (low_bytes (width_of slot.name) (slice_index registers slot.rs2));

@@ -16,7 +16,7 @@ use Rattle.rv_blocks.specs.Slots.{met_by}
 -- the registers behind an instruction of one access, which had this reply
 abbrev pub registers_by : Single → (reply : ℕ) → (registers : List ℕ) → List ℕ
 registers_by (Load addr destination) reply registers =
-    with_register registers destination.rd (received destination (reply_to (request.Load addr destination.width) reply ∷ []))
+    with_register registers destination.rd (received destination (reply_to (request.Load destination.width addr) reply ∷ []))
 registers_by (Store addr width value) reply registers = registers
 
 -- The access of a slot that is a load or a store is one, starts then, and is a hit of the port. It leaves these registers

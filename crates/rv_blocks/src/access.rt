@@ -172,7 +172,7 @@ fn destination(slot: &Slot, width: u8) -> Destination
 #[inline(always)]
 fn loaded(name: Name, width: u8, reply: u64) -> u64
     requires { width ≡ width_of name }
-    ensures { result ≡ received (record { rd = 0; width = width; signed = is_signed name }) (reply_to (access.Load 0 width) reply ∷ []) }
+    ensures { result ≡ received (record { rd = 0; width = width; signed = is_signed name }) (reply_to (access.Load width 0) reply ∷ []) }
 {
     let unused = 64 - 8 * u32::from(width);
     let high = reply << unused;

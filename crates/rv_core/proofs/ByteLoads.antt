@@ -8,7 +8,7 @@ use Rattle.rv_core.specs.Sound.{AreServableIn, IsServableIn}
 use Rattle.zs_num.specs.PairedRight.{ArePairedRight}
 
 -- a byte of memory is in a line
-pub load_served : (memory : MemoryRange) (fetching : Bool) (addr : ℕ) → memory.base ≤ addr → addr + 1 ≤ memory.base + memory.size → IsServableIn memory fetching (Load addr 1)
+pub load_served : (memory : MemoryRange) (fetching : Bool) (addr : ℕ) → memory.base ≤ addr → addr + 1 ≤ memory.base + memory.size → IsServableIn memory fetching (Load 1 addr)
 load_served memory fetching addr begins ends = record {
   some = lit≤ tt;
   few = lit≤ tt;
@@ -33,6 +33,6 @@ loads_paired pairing addr zero = tt
 loads_paired pairing addr (suc count) = (tt, loads_paired pairing (addr + 1) count)
 
 -- the first load, and the others
-pub loads_first : (addr count : ℕ) → 0 < count → byte_loads addr count ≡ Load addr 1 ∷ byte_loads (addr + 1) (count - 1)
+pub loads_first : (addr count : ℕ) → 0 < count → byte_loads addr count ≡ Load 1 addr ∷ byte_loads (addr + 1) (count - 1)
 loads_first addr zero some = absurd (omega arith)
-loads_first addr (suc count) some = let e : suc count - 1 ≡ count = omega arith in ap (λ n. Load addr 1 ∷ byte_loads (addr + 1) n) (sym e)
+loads_first addr (suc count) some = let e : suc count - 1 ≡ count = omega arith in ap (λ n. Load 1 addr ∷ byte_loads (addr + 1) n) (sym e)

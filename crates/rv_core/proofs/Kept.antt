@@ -218,9 +218,9 @@ accesses-keeps addr width requests ending core s served paired ends few alone =
 
 -- the core is in a write call, of which the byte at an address comes next and so many later
 pub writing-keeps : (addr later count : ℕ) (core : CoreState) → IsReady core → core.memory.base ≤ addr → addr + 1 + later ≤ core.memory.base + core.memory.size → later < 256
-    → Keeps core (goes_through (Load addr 1 ∷ byte_loads (addr + 1) later) [] (ToConsole count) core)
+    → Keeps core (goes_through (Load 1 addr ∷ byte_loads (addr + 1) later) [] (ToConsole count) core)
 writing-keeps addr later count core r begins ends few =
-    waiting-keeps (Load addr 1) (byte_loads (addr + 1) later) [] (ToConsole count) core r
+    waiting-keeps (Load 1 addr) (byte_loads (addr + 1) later) [] (ToConsole count) core r
     (load_served core.memory core.fetching addr begins (omega arith), loads_served core.memory core.fetching (addr + 1) later (omega arith) (omega arith))
     (tt, loads_paired core.pairing (addr + 1) later) tt (rw (loads_length (addr + 1) later) few) tt
 
@@ -293,11 +293,11 @@ store-keeps width i core some few s =
 
 -- an access that is no fetch may be asked of any memory
 pub never_fetches : (fetching : Bool) (request : Request) → MayFetch false request → MayFetch fetching request
-never_fetches fetching (Load addr width) may = tt
-never_fetches fetching (Store addr width value) may = tt
-never_fetches fetching (Lr addr width) may = tt
-never_fetches fetching (Sc addr width value paired) may = tt
-never_fetches fetching (Amo op addr width value) may = tt
+never_fetches fetching (Load width addr) may = tt
+never_fetches fetching (Store width addr value) may = tt
+never_fetches fetching (Lr width addr) may = tt
+never_fetches fetching (Sc width paired addr value) may = tt
+never_fetches fetching (Amo width op addr value) may = tt
 never_fetches fetching (Fetch addr) may = absurd (true≢false (sym may))
 
 -- an aligned atomic lies in one line

@@ -31,23 +31,23 @@ left_in_line addr = line_bytes - addr % line_bytes
 unfoldable pub load_requests : (addr width : ℕ) → List Request
 load_requests addr width =
     if is_in_line addr width
-    then Load addr width ∷ []
-    else Load addr (left_in_line addr) ∷ Load (addr + left_in_line addr) (width - left_in_line addr) ∷ []
+    then Load width addr ∷ []
+    else Load (left_in_line addr) addr ∷ Load (width - left_in_line addr) (addr + left_in_line addr) ∷ []
 
 -- A store of the lowest bytes of a number likewise: the lower line gets the lower bytes.
 unfoldable pub store_requests : (addr width value : ℕ) → List Request
 store_requests addr width value =
     if is_in_line addr width
-    then Store addr width (low_bytes width value) ∷ []
+    then Store width addr (low_bytes width value) ∷ []
     else
-    Store addr (left_in_line addr) (low_bytes (left_in_line addr) value)
-    ∷ Store (addr + left_in_line addr) (width - left_in_line addr) (low_bytes (width - left_in_line addr) (high_bytes (left_in_line addr) value))
+    Store (left_in_line addr) addr (low_bytes (left_in_line addr) value)
+    ∷ Store (width - left_in_line addr) (addr + left_in_line addr) (low_bytes (width - left_in_line addr) (high_bytes (left_in_line addr) value))
     ∷ []
 
 -- a load of each of so many bytes, from the lowest address on
 abbrev pub byte_loads : (addr count : ℕ) → List Request
 byte_loads addr zero = []
-byte_loads addr (suc count) = Load addr 1 ∷ byte_loads (addr + 1) count
+byte_loads addr (suc count) = Load 1 addr ∷ byte_loads (addr + 1) count
 
 -- a reply to an access: of the number the lowest bytes count, as many as the access has
 abbrev pub reply_to : Request → (number : ℕ) → Reply

@@ -132,19 +132,19 @@ atomic addr width request ending core =
 
 -- "Load-Reserved/Store-Conditional Instructions": rd gets the number, of which a word is sign-extended
 abbrev pub load_reserved : (width : ℕ) → Inst → CoreState → CoreState
-load_reserved width i core = let addr = register core i.rs1 in atomic addr width (Lr addr width) (to_register i width true) core
+load_reserved width i core = let addr = register core i.rs1 in atomic addr width (Lr width addr) (to_register i width true) core
 
 -- rd gets the reply: 0 where the number was stored, and else 1
 abbrev pub store_conditional : (width : ℕ) → Inst → CoreState → CoreState
 store_conditional width i core =
     let addr = register core i.rs1 in
-    atomic addr width (Sc addr width (low_bytes width (register core i.rs2)) (is_paired core.pairing addr width)) (to_register i width false) core
+    atomic addr width (Sc width (is_paired core.pairing addr width) addr (low_bytes width (register core i.rs2))) (to_register i width false) core
 
 -- "Atomic Memory Operations": rd gets the number that was in memory, of which a word is sign-extended
 abbrev pub updates : AmoOp → (width : ℕ) → Inst → CoreState → CoreState
 updates op width i core =
     let addr = register core i.rs1 in
-    atomic addr width (Amo op addr width (low_bytes width (register core i.rs2))) (to_register i width true) core
+    atomic addr width (Amo width op addr (low_bytes width (register core i.rs2))) (to_register i width true) core
 
 -- ---- "Environment Call and Breakpoints"
 -- Calls have the numbers of Linux on RISC-V.

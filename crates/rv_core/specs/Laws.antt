@@ -43,11 +43,11 @@ bytes_of (suc count) number = number % 256 ∷ bytes_of count (number / 256)
 
 -- the bytes that stores write, in order of their addresses
 abbrev pub bytes_stored : Request → List ℕ
-bytes_stored (Store addr width value) = bytes_of width value
-bytes_stored (Load addr width) = []
-bytes_stored (Lr addr width) = []
-bytes_stored (Sc addr width value paired) = []
-bytes_stored (Amo op addr width value) = []
+bytes_stored (Store width addr value) = bytes_of width value
+bytes_stored (Load width addr) = []
+bytes_stored (Lr width addr) = []
+bytes_stored (Sc width paired addr value) = []
+bytes_stored (Amo width op addr value) = []
 bytes_stored (Fetch addr) = []
 
 -- the number that bytes make, the lowest first

@@ -23,7 +23,7 @@ in_progress (Lower next upper destination) =
 in_progress (Last next lower destination) =
     Some (record { next = next; later = []; replies = option_to_list lower; ending = ending_of destination })
 in_progress (Write addr later count) =
-    Some (record { next = request.Load addr 1; later = byte_loads (addr + 1) later; replies = []; ending = ToConsole count })
+    Some (record { next = request.Load 1 addr; later = byte_loads (addr + 1) later; replies = []; ending = ToConsole count })
 
 -- whether an instruction was fetched and is to be executed
 abbrev pub is_fetched : Progress → Bool

@@ -26,8 +26,8 @@ single_store memory addr width number = if is_single memory addr width then Some
 
 -- its access
 abbrev pub access_of : Single → Request
-access_of (Load addr destination) = request.Load addr destination.width
-access_of (Store addr width value) = request.Store addr width value
+access_of (Load addr destination) = request.Load destination.width addr
+access_of (Store addr width value) = request.Store width addr value
 
 -- what the reply does
 abbrev pub ending_with : Single → Ending

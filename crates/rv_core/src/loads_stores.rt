@@ -80,7 +80,7 @@ impl Core {
 /// An access that stores the lowest bytes of a number.
 fn store_of(addr: u64, width: u8, value: u64) -> Request
     requires { width ≤ 8 }
-    ensures { result ≡ Request.Store addr width (low_bytes width value) }
+    ensures { result ≡ Request.Store width addr (low_bytes width value) }
 {
     Request::Store {
         addr,

@@ -50,8 +50,8 @@ pub trait Port {
     #[inline(always)]
     fn load_hit(&mut self, _start: Cycle, _addr: u64, _width: u8) -> Option<u64>
         requires room { 1 ≤ room self.old }
-        requires servable { IsServable (base self.old) (size self.old) (l1i self.old) (Load _addr _width) }
-        ensures hit { IfSome result (λ reply. IsHit gives core logged self.old _start (Load _addr _width) reply self.new) }
+        requires servable { IsServable (base self.old) (size self.old) (l1i self.old) (Load _width _addr) }
+        ensures hit { IfSome result (λ reply. IsHit gives core logged self.old _start (Load _width _addr) reply self.new) }
         ensures none { IfNone result (self.new ≡ self.old) }
         ensures same_core { core self.new ≡ core self.old }
         ensures same_base { base self.new ≡ base self.old }
@@ -66,8 +66,8 @@ pub trait Port {
     #[inline(always)]
     fn store_hit(&mut self, _start: Cycle, _addr: u64, _width: u8, _value: u64) -> bool
         requires room { 1 ≤ room self.old }
-        requires servable { IsServable (base self.old) (size self.old) (l1i self.old) (Store _addr _width _value) }
-        ensures hit { IsTrue result → (reply : ℕ) × IsHit gives core logged self.old _start (Store _addr _width _value) reply self.new }
+        requires servable { IsServable (base self.old) (size self.old) (l1i self.old) (Store _width _addr _value) }
+        ensures hit { IsTrue result → (reply : ℕ) × IsHit gives core logged self.old _start (Store _width _addr _value) reply self.new }
         ensures none { result ≡ false → self.new ≡ self.old }
         ensures same_core { core self.new ≡ core self.old }
         ensures same_base { base self.new ≡ base self.old }

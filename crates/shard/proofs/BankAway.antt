@@ -24,11 +24,11 @@ not_valid I h = refl
 
 unserved : (l1 : L1State) (request : Request) → is_fetch request ≡ false → copy_at l1 (line_of request) ≡ None → is_private l1 request ≡ false
 unfolding is_private
-unserved l1 (Load addr width) f none = ap is_some none
-unserved l1 (Store addr width value) f none = ap may_write none
-unserved l1 (Lr addr width) f none = refl
-unserved l1 (Sc addr width value paired) f none = refl
-unserved l1 (Amo op addr width value) f none = refl
+unserved l1 (Load width addr) f none = ap is_some none
+unserved l1 (Store width addr value) f none = ap may_write none
+unserved l1 (Lr width addr) f none = refl
+unserved l1 (Sc width paired addr value) f none = refl
+unserved l1 (Amo width op addr value) f none = refl
 unserved l1 (Fetch addr) f none = absurd cc
 
 module _ (q : Bank) (core : ℕ) (request : Request) (p : Bank) (are : AreParts p) (asked : IsAsked p core request) (like : IsLike p q core request) where

@@ -18,7 +18,7 @@ none_has : (o : Option Copy) → is_some o ≡ false → I ≡ letter_of o
 none_has None none = refl
 none_has (Some copy) none = absurd cc
 
-pub load_absent : (l1 : L1State) (request : Request) (addr width : ℕ) → request ≡ Load addr width → is_private l1 request ≡ false → I ≡ letter_of (copy_at l1 (line_of request))
+pub load_absent : (l1 : L1State) (request : Request) (addr width : ℕ) → request ≡ Load width addr → is_private l1 request ≡ false → I ≡ letter_of (copy_at l1 (line_of request))
 unfolding is_private
 load_absent l1 request addr width is shared =
     none_has (copy_at l1 (line_at addr)) (sym (ap (is_private l1) is) ∙ shared) ∙ sym (ap (λ (r : Request). letter_of (copy_at l1 (line_of r))) is)
@@ -31,9 +31,9 @@ freed_as l1 line free (Some copy) e there =
 
 pub loaded_by : (home other : HomeState) (l1s s : List L1State) (core addr width : ℕ) (free : Bool) → bank_with other s ≡ with_l1 core (set_free_in (line_at addr) free) (bank_with other l1s)
     → free ≡ (is_alone (own_letter (bank_with home l1s) core (line_at addr)) && not (is_marked_by_others home.marks core (line_at addr)))
-    → IsSome (copy_of (bank_with home l1s) core (line_at addr)) → bank_with home s ≡ answered core (Load addr width) (bank_with home l1s)
+    → IsSome (copy_of (bank_with home l1s) core (line_at addr)) → bank_with home s ≡ answered core (Load width addr) (bank_with home l1s)
 unfolding marks_after bytes_after
 loaded_by home other l1s s core addr width free is right there =
     let l1 = l1_of (bank_with home l1s) core in
-    answered_by home home other l1s s core (Load addr width) (bytes_of (copy_at l1 (line_at addr))) free
+    answered_by home home other l1s s core (Load width addr) (bytes_of (copy_at l1 (line_at addr))) free
     (is ∙ ap (λ (x : L1State). bank_with other (set l1s core x)) (freed_as l1 (line_at addr) free (copy_at l1 (line_at addr)) refl there)) refl refl right there

@@ -67,11 +67,11 @@ module _ (p : Bank) (core : ℕ) (request : Request) where
 -- ---- a fetch
 pub fetch_absent : (l1 : L1State) (request : Request) → is_fetch request ≡ true → is_private l1 request ≡ false → has_instructions l1 (line_of request) ≡ false
 unfolding is_private
-fetch_absent l1 (Load addr width) f h = absurd cc
-fetch_absent l1 (Store addr width value) f h = absurd cc
-fetch_absent l1 (Lr addr width) f h = absurd cc
-fetch_absent l1 (Sc addr width value paired) f h = absurd cc
-fetch_absent l1 (Amo op addr width value) f h = absurd cc
+fetch_absent l1 (Load width addr) f h = absurd cc
+fetch_absent l1 (Store width addr value) f h = absurd cc
+fetch_absent l1 (Lr width addr) f h = absurd cc
+fetch_absent l1 (Sc width paired addr value) f h = absurd cc
+fetch_absent l1 (Amo width op addr value) f h = absurd cc
 fetch_absent l1 (Fetch addr) f h = h
 
 module _ (p : Bank) (core : ℕ) (request : Request) where

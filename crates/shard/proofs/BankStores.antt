@@ -24,9 +24,9 @@ wrote_as l1 addr width value free (Some copy) e there =
 pub stored_by : (home now other : HomeState) (l1s s : List L1State) (core addr width value : ℕ) (free : Bool) → bank_with other s ≡ with_l1 core (written_in addr width value free) (bank_with other l1s)
     → now ≡ record home { marks = after_write core addr home.marks }
     → free ≡ (is_alone (own_letter (bank_with home l1s) core (line_at addr)) && not (is_marked_by_others now.marks core (line_at addr)))
-    → IsSome (copy_of (bank_with home l1s) core (line_at addr)) → bank_with now s ≡ answered core (Store addr width value) (bank_with home l1s)
+    → IsSome (copy_of (bank_with home l1s) core (line_at addr)) → bank_with now s ≡ answered core (Store width addr value) (bank_with home l1s)
 unfolding marks_after bytes_after
 stored_by home now other l1s s core addr width value free is ended right there =
     let l1 = l1_of (bank_with home l1s) core in
-    answered_by home now other l1s s core (Store addr width value) (with_number (bytes_of (copy_at l1 (line_at addr))) (place_in_line addr) width value) free
+    answered_by home now other l1s s core (Store width addr value) (with_number (bytes_of (copy_at l1 (line_at addr))) (place_in_line addr) width value) free
     (is ∙ ap (λ (x : L1State). bank_with other (set l1s core x)) (wrote_as l1 addr width value free (copy_at l1 (line_at addr)) refl there)) ended refl right there

@@ -365,18 +365,18 @@ module _ (c : Caches) (core line : ℕ) (h : AreCoherent c) (room : HaveRoomForL
 
 pub copies_behind : CopiesBehind
 unfolding caches_after leaving_of
-copies_behind c core (Load addr width) h room known k l = data_is c core (line_at addr) h room known k l false
-copies_behind c core (Store addr width value) h room known k l = data_is c core (line_at addr) h room known k l true
-copies_behind c core (Lr addr width) h room known k l = data_is c core (line_at addr) h room known k l false
-copies_behind c core (Sc addr width value paired) h room known k l = data_is c core (line_at addr) h room known k l true
-copies_behind c core (Amo op addr width value) h room known k l = data_is c core (line_at addr) h room known k l true
+copies_behind c core (Load width addr) h room known k l = data_is c core (line_at addr) h room known k l false
+copies_behind c core (Store width addr value) h room known k l = data_is c core (line_at addr) h room known k l true
+copies_behind c core (Lr width addr) h room known k l = data_is c core (line_at addr) h room known k l false
+copies_behind c core (Sc width paired addr value) h room known k l = data_is c core (line_at addr) h room known k l true
+copies_behind c core (Amo width op addr value) h room known k l = data_is c core (line_at addr) h room known k l true
 copies_behind c core (Fetch addr) h room known k l = fetch_is c core (line_at addr) h room known k l
 
 pub instructions_are_behind : InstructionsBehind
 unfolding caches_after leaving_of
-instructions_are_behind c core (Load addr width) h room known fetches k l = data_holds c core (line_at addr) h room known k l false
-instructions_are_behind c core (Store addr width value) h room known fetches k l = data_holds c core (line_at addr) h room known k l true
-instructions_are_behind c core (Lr addr width) h room known fetches k l = data_holds c core (line_at addr) h room known k l false
-instructions_are_behind c core (Sc addr width value paired) h room known fetches k l = data_holds c core (line_at addr) h room known k l true
-instructions_are_behind c core (Amo op addr width value) h room known fetches k l = data_holds c core (line_at addr) h room known k l true
+instructions_are_behind c core (Load width addr) h room known fetches k l = data_holds c core (line_at addr) h room known k l false
+instructions_are_behind c core (Store width addr value) h room known fetches k l = data_holds c core (line_at addr) h room known k l true
+instructions_are_behind c core (Lr width addr) h room known fetches k l = data_holds c core (line_at addr) h room known k l false
+instructions_are_behind c core (Sc width paired addr value) h room known fetches k l = data_holds c core (line_at addr) h room known k l true
+instructions_are_behind c core (Amo width op addr value) h room known fetches k l = data_holds c core (line_at addr) h room known k l true
 instructions_are_behind c core (Fetch addr) h room known fetches k l = fetch_holds_is c core (line_at addr) h room known k l (fetches refl)

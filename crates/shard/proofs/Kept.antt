@@ -179,9 +179,9 @@ stored_length false core addr marks = length-set marks core None
 
 pub length-marks_after : (marks : List (Option Reservation)) (core : ℕ) (request : Request) → length (marks_after marks core request) ≡ length marks
 unfolding marks_after
-length-marks_after marks core (Load addr width) = refl
-length-marks_after marks core (Store addr width value) = length-after_write core addr marks
-length-marks_after marks core (Lr addr width) = length-set marks core (Some (record { addr = addr; width = width }))
-length-marks_after marks core (Sc addr width value paired) = stored_length (does_store marks core addr width paired) core addr marks
-length-marks_after marks core (Amo op addr width value) = length-after_write core addr marks
+length-marks_after marks core (Load width addr) = refl
+length-marks_after marks core (Store width addr value) = length-after_write core addr marks
+length-marks_after marks core (Lr width addr) = length-set marks core (Some (record { addr = addr; width = width }))
+length-marks_after marks core (Sc width paired addr value) = stored_length (does_store marks core addr width paired) core addr marks
+length-marks_after marks core (Amo width op addr value) = length-after_write core addr marks
 length-marks_after marks core (Fetch addr) = refl

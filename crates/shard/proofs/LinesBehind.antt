@@ -125,9 +125,9 @@ module _ (c : Caches) (core line : ℕ) (h : AreCoherent c) (room : HaveRoomForL
 
 pub lines_behind : LinesBehind
 unfolding caches_after leaving_of
-lines_behind c core (Load addr width) h room known l = data_is c core (line_at addr) h room l false
-lines_behind c core (Store addr width value) h room known l = data_is c core (line_at addr) h room l true
-lines_behind c core (Lr addr width) h room known l = data_is c core (line_at addr) h room l false
-lines_behind c core (Sc addr width value paired) h room known l = data_is c core (line_at addr) h room l true
-lines_behind c core (Amo op addr width value) h room known l = data_is c core (line_at addr) h room l true
+lines_behind c core (Load width addr) h room known l = data_is c core (line_at addr) h room l false
+lines_behind c core (Store width addr value) h room known l = data_is c core (line_at addr) h room l true
+lines_behind c core (Lr width addr) h room known l = data_is c core (line_at addr) h room l false
+lines_behind c core (Sc width paired addr value) h room known l = data_is c core (line_at addr) h room l true
+lines_behind c core (Amo width op addr value) h room known l = data_is c core (line_at addr) h room l true
 lines_behind c core (Fetch addr) h room known l = fetch_is c core (line_at addr) h room l

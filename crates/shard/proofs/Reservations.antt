@@ -198,54 +198,54 @@ module _ (m : MarkedMemory) (pairings : List Paired) (are : AreMarks m (length p
   state_from : (bytes : List ℕ) (r s : List Reserved) → r ≡ s → memory_of bytes r ≡ memory_of bytes s
   state_from bytes r s e = ap (λ (x : List Reserved). memory_of bytes x) e
 
-  after_load : (addr width : ℕ) → all_of (marked_after m core (Load addr width)) (set pairings core (pairing_of pairings core)) ≡ all_of m pairings
+  after_load : (addr width : ℕ) → all_of (marked_after m core (Load width addr)) (set pairings core (pairing_of pairings core)) ≡ all_of m pairings
   unfolding marks_after
   after_load addr width =
-      from_each (Load addr width) (pairing_of pairings core) R (λ k l. rw (same_pairing k) (reserved_stays m (length pairings) are core (Load addr width) k refl (pairing_of pairings k)))
+      from_each (Load width addr) (pairing_of pairings core) R (λ k l. rw (same_pairing k) (reserved_stays m (length pairings) are core (Load width addr) k refl (pairing_of pairings k)))
 
   after_fetch : (addr : ℕ) → all_of (marked_after m core (Fetch addr)) (set pairings core (pairing_of pairings core)) ≡ all_of m pairings
   unfolding marks_after
   after_fetch addr =
       from_each (Fetch addr) (pairing_of pairings core) R (λ k l. rw (same_pairing k) (reserved_stays m (length pairings) are core (Fetch addr) k refl (pairing_of pairings k)))
 
-  after_store : (addr width value : ℕ) → all_of (marked_after m core (Store addr width value)) (set pairings core (pairing_of pairings core)) ≡ flat.after_write core addr (all_of m pairings)
+  after_store : (addr width value : ℕ) → all_of (marked_after m core (Store width addr value)) (set pairings core (pairing_of pairings core)) ≡ flat.after_write core addr (all_of m pairings)
   unfolding marks_after
   after_store addr width value =
-      from_each (Store addr width value) (pairing_of pairings core) (λ k. flat.unless_written (eqb k core) addr (R k))
-      (λ k l. rw (same_pairing k) (reserved_written m (length pairings) are core (Store addr width value) k (written_at core addr (marks_for m (Store addr width value)) k (omega (arith, here_length m (length pairings) are core (Store addr width value)))) (pairing_of pairings k)))
+      from_each (Store width addr value) (pairing_of pairings core) (λ k. flat.unless_written (eqb k core) addr (R k))
+      (λ k l. rw (same_pairing k) (reserved_written m (length pairings) are core (Store width addr value) k (written_at core addr (marks_for m (Store width addr value)) k (omega (arith, here_length m (length pairings) are core (Store width addr value)))) (pairing_of pairings k)))
       ∙ sym (flat_written R core addr (length pairings))
 
-  after_amo : (op : _) (addr width value : ℕ) → all_of (marked_after m core (Amo op addr width value)) (set pairings core (pairing_of pairings core)) ≡ flat.after_write core addr (all_of m pairings)
+  after_amo : (op : _) (addr width value : ℕ) → all_of (marked_after m core (Amo width op addr value)) (set pairings core (pairing_of pairings core)) ≡ flat.after_write core addr (all_of m pairings)
   unfolding marks_after
   after_amo op addr width value =
-      from_each (Amo op addr width value) (pairing_of pairings core) (λ k. flat.unless_written (eqb k core) addr (R k))
-      (λ k l. rw (same_pairing k) (reserved_written m (length pairings) are core (Amo op addr width value) k (written_at core addr (marks_for m (Amo op addr width value)) k (omega (arith, here_length m (length pairings) are core (Amo op addr width value)))) (pairing_of pairings k)))
+      from_each (Amo width op addr value) (pairing_of pairings core) (λ k. flat.unless_written (eqb k core) addr (R k))
+      (λ k l. rw (same_pairing k) (reserved_written m (length pairings) are core (Amo width op addr value) k (written_at core addr (marks_for m (Amo width op addr value)) k (omega (arith, here_length m (length pairings) are core (Amo width op addr value)))) (pairing_of pairings k)))
       ∙ sym (flat_written R core addr (length pairings))
 
   -- a load-reserved: the core's own mark and pairing are of the same bytes
-  own_reserved : (addr width : ℕ) → reserved_by (marked_after m core (Lr addr width)) core (Some (record { addr = addr; width = width })) ≡ Some (record { addr = addr; width = width })
+  own_reserved : (addr width : ℕ) → reserved_by (marked_after m core (Lr width addr)) core (Some (record { addr = addr; width = width })) ≡ Some (record { addr = addr; width = width })
   unfolding marks_after
   own_reserved addr width =
       let q : Reservation = record { addr = addr; width = width } in
-      let l : core < length (marks_for m (Lr addr width)) = omega (arith, here_length m (length pairings) are core (Lr addr width)) in
-      rw (mark_here m (length pairings) are core (Lr addr width) core addr refl, get_or-set_same (marks_for m (Lr addr width)) core (Some q) None l, eq-eqb addr addr refl, eq-eqb width width refl) refl
+      let l : core < length (marks_for m (Lr width addr)) = omega (arith, here_length m (length pairings) are core (Lr width addr)) in
+      rw (mark_here m (length pairings) are core (Lr width addr) core addr refl, get_or-set_same (marks_for m (Lr width addr)) core (Some q) None l, eq-eqb addr addr refl, eq-eqb width width refl) refl
 
-  after_lr : (addr width : ℕ) → all_of (marked_after m core (Lr addr width)) (set pairings core (Some (record { addr = addr; width = width }))) ≡ set (all_of m pairings) core (Some (record { addr = addr; width = width }))
+  after_lr : (addr width : ℕ) → all_of (marked_after m core (Lr width addr)) (set pairings core (Some (record { addr = addr; width = width }))) ≡ set (all_of m pairings) core (Some (record { addr = addr; width = width }))
   unfolding marks_after
   after_lr addr width =
       let p : Pairing = record { addr = addr; width = width } in
       let q : Reservation = record { addr = addr; width = width } in
-      from_each (Lr addr width) (Some p) (λ k. cond (eqb k core) (Some q) (R k))
-      (λ k l. elim (cases_eq k core) as (λ _. reserved_by (marked_after m core (Lr addr width)) k (cond (eqb k core) (Some p) (pairing_of pairings k)) ≡ cond (eqb k core) (Some q) (R k)) [
+      from_each (Lr width addr) (Some p) (λ k. cond (eqb k core) (Some q) (R k))
+      (λ k l. elim (cases_eq k core) as (λ _. reserved_by (marked_after m core (Lr width addr)) k (cond (eqb k core) (Some p) (pairing_of pairings k)) ≡ cond (eqb k core) (Some q) (R k)) [
         | inl e ↦ rw (eq-eqb k core e, e) (own_reserved addr width)
-        | inr e ↦ rw (ne_eqb k core e) (reserved_stays m (length pairings) are core (Lr addr width) k (get_or-set_other (marks_for m (Lr addr width)) core k (Some q) None e) (pairing_of pairings k))
+        | inr e ↦ rw (ne_eqb k core e) (reserved_stays m (length pairings) are core (Lr width addr) k (get_or-set_other (marks_for m (Lr width addr)) core k (Some q) None e) (pairing_of pairings k))
       ])
       ∙ sym (flat_set R (Some q) core (length pairings) within)
 
   -- a store-conditional, which stores or does not
   module _ (addr width value : ℕ) (paired : Bool) where
     abbrev sc : Request
-    sc = Sc addr width value paired
+    sc = Sc width paired addr value
 
     other_mark : (b : Bool) → does_store (marks_for m sc) core addr width paired ≡ b → (k : ℕ) → (k ≡ core → ⊥) → get_or (marks_after (marks_for m sc) core sc) k None ≡ get_or (cond b (flat.after_write core addr (marks_for m sc)) (marks_for m sc)) k None
     unfolding marks_after
@@ -307,30 +307,30 @@ module _ (m : MarkedMemory) (pairings : List Paired) (are : AreMarks m (length p
   -- ---- one access
   step_reply : (request : Request) → IsPairedRight (pairing_of pairings core) request → marked_reply m core request ≡ flat.memory_reply (flat_for m pairings) core request
   unfolding reply_from flat.is_reserved
-  step_reply (Load addr width) h = refl
-  step_reply (Store addr width value) h = refl
-  step_reply (Lr addr width) h = refl
-  step_reply (Sc addr width value paired) h =
+  step_reply (Load width addr) h = refl
+  step_reply (Store width addr value) h = refl
+  step_reply (Lr width addr) h = refl
+  step_reply (Sc width paired addr value) h =
       let e = stores_alike addr width value paired (pairing_of pairings core) refl h in
       rw (e, flat_at m pairings core within) refl
-  step_reply (Amo op addr width value) h = refl
+  step_reply (Amo width op addr value) h = refl
   step_reply (Fetch addr) h = refl
 
-  sc_state : (addr width value : ℕ) (paired : Bool) (b : Bool) → does_store (marks_for m (Sc addr width value paired)) core addr width paired ≡ b → flat_for (marked_after m core (Sc addr width value paired)) (set pairings core None) ≡ cond b (flat.reserving (flat.written (flat_for m pairings) core addr width value) core None) (flat.reserving (flat_for m pairings) core None)
+  sc_state : (addr width value : ℕ) (paired : Bool) (b : Bool) → does_store (marks_for m (Sc width paired addr value)) core addr width paired ≡ b → flat_for (marked_after m core (Sc width paired addr value)) (set pairings core None) ≡ cond b (flat.reserving (flat.written (flat_for m pairings) core addr width value) core None) (flat.reserving (flat_for m pairings) core None)
   unfolding bytes_after flat.written
   sc_state addr width value paired true e = rw (e, after_sc addr width value paired true e) refl
   sc_state addr width value paired false e = rw (e, after_sc addr width value paired false e) refl
 
   pub step_after : (request : Request) → IsPairedRight (pairing_of pairings core) request → flat_for (marked_after m core request) (pairings_after pairings core request) ≡ flat.memory_after (flat_for m pairings) core request
   unfolding bytes_after flat.written flat.is_reserved
-  step_after (Load addr width) h = state_from m.bytes _ _ (after_load addr width)
-  step_after (Store addr width value) h = state_from (flat.with_number m.bytes (addr - m.base) width value) _ _ (after_store addr width value)
-  step_after (Lr addr width) h = state_from m.bytes _ _ (after_lr addr width)
-  step_after (Sc addr width value paired) h =
+  step_after (Load width addr) h = state_from m.bytes _ _ (after_load addr width)
+  step_after (Store width addr value) h = state_from (flat.with_number m.bytes (addr - m.base) width value) _ _ (after_store addr width value)
+  step_after (Lr width addr) h = state_from m.bytes _ _ (after_lr addr width)
+  step_after (Sc width paired addr value) h =
       let e = stores_alike addr width value paired (pairing_of pairings core) refl h in
-      let same : does_store (marks_for m (Sc addr width value paired)) core addr width paired ≡ flat.is_reservation (get_or (all_of m pairings) core None) addr width = rw (flat_at m pairings core within) e in
+      let same : does_store (marks_for m (Sc width paired addr value)) core addr width paired ≡ flat.is_reservation (get_or (all_of m pairings) core None) addr width = rw (flat_at m pairings core within) e in
       sc_state addr width value paired (flat.is_reservation (get_or (all_of m pairings) core None) addr width) same
-  step_after (Amo op addr width value) h = state_from (flat.with_number m.bytes (addr - m.base) width (new_number op width (flat.number_in m.bytes (addr - m.base) width) value)) _ _ (after_amo op addr width value)
+  step_after (Amo width op addr value) h = state_from (flat.with_number m.bytes (addr - m.base) width (new_number op width (flat.number_in m.bytes (addr - m.base) width) value)) _ _ (after_amo op addr width value)
   step_after (Fetch addr) h = state_from m.bytes _ _ (after_fetch addr)
 
 -- ---- lists of accesses

@@ -143,7 +143,7 @@ number_of_one [] (suc place) = refl
 number_of_one (x ∷ bytes) zero = omega arith
 number_of_one (x ∷ bytes) (suc place) = number_of_one bytes place
 
-asked_byte : (p : Bank) → AreParts p → (addr : ℕ) → p.home.base ≤ addr → addr < p.home.base + p.home.size → IsOwn p (line_at addr) → IsAsked p 0 (Load addr 1)
+asked_byte : (p : Bank) → AreParts p → (addr : ℕ) → p.home.base ≤ addr → addr < p.home.base + p.home.size → IsOwn p (line_at addr) → IsAsked p 0 (Load 1 addr)
 asked_byte p are addr begins ends own = record {
   known = are.cores.0;
   servable = record { some = omega arith; few = omega arith; begins = begins; ends = omega (arith, ends); in_line = omega arith; aligned = tt; fetched = tt };
@@ -151,14 +151,14 @@ asked_byte p are addr begins ends own = record {
 }
 
 byte_inside : (p : Bank) → AreParts p → (addr : ℕ) → p.home.base ≤ addr → addr < p.home.base + p.home.size → IsOwn p (line_at addr) → IsInMemory p.home (line_at addr)
-byte_inside p are addr begins ends own = asked_inside p are 0 (Load addr 1) (asked_byte p are addr begins ends own)
+byte_inside p are addr begins ends own = asked_inside p are 0 (Load 1 addr) (asked_byte p are addr begins ends own)
 
 pub byte_seen : (p : Bank) → AreParts p → (addr : ℕ) → p.home.base ≤ addr → addr < p.home.base + p.home.size → IsOwn p (line_at addr)
     → get_or (newest_in (line_at addr) (bytes_at p.home (line_at addr)) p.l1s) (addr % line_bytes) 0 ≡ get_or (bytes_seen p) (place_of p.home.shards p.home.base addr) 0
 unfolding reply_from
 byte_seen p are addr begins ends own =
     sym (number_of_one (newest_in (line_at addr) (bytes_at p.home (line_at addr)) p.l1s) (addr % line_bytes))
-    ∙ (sym (reply_seen p are 0 (Load addr 1) (asked_byte p are addr begins ends own)) ∙ number_of_one (bytes_seen p) (place_of p.home.shards p.home.base addr))
+    ∙ (sym (reply_seen p are 0 (Load 1 addr) (asked_byte p are addr begins ends own)) ∙ number_of_one (bytes_seen p) (place_of p.home.shards p.home.base addr))
 
 -- ---- a shard after an access
 module _ (p q : Bank) (last : ℕ) (e : Entry) (s : ShardState) (are : AreParts p) (asked : IsAsked p e.core e.request) (seen : shard_seen p last ≡ s) (is : q ≡ bank_after p e.core e.request) where

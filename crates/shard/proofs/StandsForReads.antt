@@ -48,15 +48,15 @@ module _ (base : ℕ) (bytes : List ℕ) (addr width : ℕ) (begins : base ≤ a
   stays : {l1i : Bool} (marks : List _) (core : ℕ) (request : Request) → IsServable base (length bytes) l1i request → (has_written request (reply_from bytes (addr_of request - base) marks core request) ≡ true → line_of request ≢ line_at addr)
       → reads (bytes_after bytes (addr_of request - base) marks core request) ≡ reads bytes
   unfolding bytes_after reply_from
-  stays marks core (Load at wide) can other = refl
-  stays marks core (Store at wide value) can other = stays_at at wide value can.begins can.ends can.in_line (other refl)
-  stays marks core (Lr at wide) can other = refl
-  stays marks core (Sc at wide value paired) can other = stays_if (does_store marks core at wide paired) at wide value can.begins can.ends can.in_line other
-  stays marks core (Amo op at wide value) can other = stays_at at wide _ can.begins can.ends can.in_line (other refl)
+  stays marks core (Load wide at) can other = refl
+  stays marks core (Store wide at value) can other = stays_at at wide value can.begins can.ends can.in_line (other refl)
+  stays marks core (Lr wide at) can other = refl
+  stays marks core (Sc wide paired at value) can other = stays_if (does_store marks core at wide paired) at wide value can.begins can.ends can.in_line other
+  stays marks core (Amo wide op at value) can other = stays_at at wide _ can.begins can.ends can.in_line (other refl)
   stays marks core (Fetch at) can other = refl
 
 -- ---- entries
-module _ (load : Entry) (addr width number : ℕ) (is_load : load.request ≡ Load addr width) where
+module _ (load : Entry) (addr width number : ℕ) (is_load : load.request ≡ Load width addr) where
   loads : (memory : MarkedMemory) → number_in memory.bytes (addr - memory.base) width ≡ number → marked_reply memory load.core load.request ≡ number
   unfolding reply_from
   loads memory e = rw (is_load) e
@@ -94,7 +94,7 @@ module _ (load : Entry) (addr width number : ℕ) (is_load : load.request ≡ Lo
       (All-tail Apart entry between others) kept
 
 -- a store
-stores : LoadGivesWhatWasStored → (memory : MarkedMemory) (core : ℕ) (request : Request) (addr width value : ℕ) → request ≡ Store addr width value → memory.base ≤ addr → addr + width ≤ memory.base + length memory.bytes
+stores : LoadGivesWhatWasStored → (memory : MarkedMemory) (core : ℕ) (request : Request) (addr width value : ℕ) → request ≡ Store width addr value → memory.base ≤ addr → addr + width ≤ memory.base + length memory.bytes
     → number_in (marked_after memory core request).bytes (addr - memory.base) width ≡ value % 256 ^ width
 unfolding bytes_after written
 stores law memory core request addr width value is begins ends =
@@ -108,7 +108,7 @@ read_after_write law shards memory c store load between left addr width value h 
     let Can : Entry → Type 0 = λ entry. IsServable memory.base (length memory.bytes) (have_l1i c) entry.request in
     let known : Known store = All-head Known store rest cores in
     let can_one : Can store = All-head Can store rest can in
-    let is : IsServable memory.base (length memory.bytes) (have_l1i c) (Store addr width value) = subst (λ (r : Request). IsServable memory.base (length memory.bytes) (have_l1i c) r) is_store can_one in
+    let is : IsServable memory.base (length memory.bytes) (have_l1i c) (Store width addr value) = subst (λ (r : Request). IsServable memory.base (length memory.bytes) (have_l1i c) r) is_store can_one in
     let step = stand_after shards memory c answered.0 store h answered.1 can_one known in
     let d : Caches = caches_after c store.core store.request in
     let next : MarkedMemory = marked_after memory store.core store.request in

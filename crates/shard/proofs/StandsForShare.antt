@@ -101,11 +101,11 @@ module _ (n number base : ℕ) (some : 0 < n) (whole part : List ℕ) (share : S
   pub reply_same : {l1i : Bool} (request : Request) → IsServable base (length whole) l1i request → line_of request % n ≡ number
       → reply_from part (place_of n base (addr_of request)) marks core request ≡ reply_from whole (addr_of request - base) marks core request
   unfolding reply_from
-  reply_same (Load addr width) h is = sym (same_number n number base some whole part share addr width h.begins h.ends h.in_line is)
-  reply_same (Store addr width value) h is = refl
-  reply_same (Lr addr width) h is = sym (same_number n number base some whole part share addr width h.begins h.ends h.in_line is)
-  reply_same (Sc addr width value paired) h is = refl
-  reply_same (Amo op addr width value) h is = sym (same_number n number base some whole part share addr width h.begins h.ends h.in_line is)
+  reply_same (Load width addr) h is = sym (same_number n number base some whole part share addr width h.begins h.ends h.in_line is)
+  reply_same (Store width addr value) h is = refl
+  reply_same (Lr width addr) h is = sym (same_number n number base some whole part share addr width h.begins h.ends h.in_line is)
+  reply_same (Sc width paired addr value) h is = refl
+  reply_same (Amo width op addr value) h is = sym (same_number n number base some whole part share addr width h.begins h.ends h.in_line is)
   reply_same (Fetch addr) h is = refl
 
   share_if : (b : Bool) (s t u v : List ℕ) → Share n number base s t → Share n number base u v → Share n number base (cond b s u) (cond b t v)
@@ -115,36 +115,36 @@ module _ (n number base : ℕ) (some : 0 < n) (whole part : List ℕ) (share : S
   pub share_after : {l1i : Bool} (request : Request) → IsServable base (length whole) l1i request → line_of request % n ≡ number
       → Share n number base (bytes_after whole (addr_of request - base) marks core request) (bytes_after part (place_of n base (addr_of request)) marks core request)
   unfolding bytes_after
-  share_after (Load addr width) h is = share
-  share_after (Store addr width value) h is = written_share n number base some whole part share addr width h.begins h.ends h.in_line is h.some value
-  share_after (Lr addr width) h is = share
-  share_after (Sc addr width value paired) h is =
+  share_after (Load width addr) h is = share
+  share_after (Store width addr value) h is = written_share n number base some whole part share addr width h.begins h.ends h.in_line is h.some value
+  share_after (Lr width addr) h is = share
+  share_after (Sc width paired addr value) h is =
       share_if (does_store marks core addr width paired) (with_number whole (addr - base) width value) (with_number part (place_of n base addr) width value) whole part
       (written_share n number base some whole part share addr width h.begins h.ends h.in_line is h.some value) share
-  share_after (Amo op addr width value) h is =
+  share_after (Amo width op addr value) h is =
       rw (← same_number n number base some whole part share addr width h.begins h.ends h.in_line is)
       (written_share n number base some whole part share addr width h.begins h.ends h.in_line is h.some (new_number op width (number_in whole (addr - base) width) value))
   share_after (Fetch addr) h is = share
 
   pub share_apart : {l1i : Bool} (request : Request) → IsServable base (length whole) l1i request → line_of request % n ≢ number → Share n number base (bytes_after whole (addr_of request - base) marks core request) part
   unfolding bytes_after
-  share_apart (Load addr width) h other = share
-  share_apart (Store addr width value) h other = apart_share n number base some whole part share addr width h.begins h.ends h.in_line other value
-  share_apart (Lr addr width) h other = share
-  share_apart (Sc addr width value paired) h other =
+  share_apart (Load width addr) h other = share
+  share_apart (Store width addr value) h other = apart_share n number base some whole part share addr width h.begins h.ends h.in_line other value
+  share_apart (Lr width addr) h other = share
+  share_apart (Sc width paired addr value) h other =
       elim (does_store marks core addr width paired) as (λ b. Share n number base (cond b (with_number whole (addr - base) width value) whole) part)
       [ true ↦ apart_share n number base some whole part share addr width h.begins h.ends h.in_line other value | false ↦ share ]
-  share_apart (Amo op addr width value) h other =
+  share_apart (Amo width op addr value) h other =
       apart_share n number base some whole part share addr width h.begins h.ends h.in_line other (new_number op width (number_in whole (addr - base) width) value)
   share_apart (Fetch addr) h other = share
 
 pub length-bytes_after : {l1i : Bool} (base : ℕ) (whole : List ℕ) (marks : List (Option Reservation)) (core : ℕ) (request : Request) → IsServable base (length whole) l1i request → length (bytes_after whole (addr_of request - base) marks core request) ≡ length whole
 unfolding bytes_after
-length-bytes_after base whole marks core (Load addr width) h = refl
-length-bytes_after base whole marks core (Store addr width value) h = length_written whole (addr - base) width value (omega (arith, h.begins, h.ends))
-length-bytes_after base whole marks core (Lr addr width) h = refl
-length-bytes_after base whole marks core (Sc addr width value paired) h =
+length-bytes_after base whole marks core (Load width addr) h = refl
+length-bytes_after base whole marks core (Store width addr value) h = length_written whole (addr - base) width value (omega (arith, h.begins, h.ends))
+length-bytes_after base whole marks core (Lr width addr) h = refl
+length-bytes_after base whole marks core (Sc width paired addr value) h =
     elim (does_store marks core addr width paired) as (λ b. length (cond b (with_number whole (addr - base) width value) whole) ≡ length whole)
     [ true ↦ length_written whole (addr - base) width value (omega (arith, h.begins, h.ends)) | false ↦ refl ]
-length-bytes_after base whole marks core (Amo op addr width value) h = length_written whole (addr - base) width _ (omega (arith, h.begins, h.ends))
+length-bytes_after base whole marks core (Amo width op addr value) h = length_written whole (addr - base) width _ (omega (arith, h.begins, h.ends))
 length-bytes_after base whole marks core (Fetch addr) h = refl

@@ -82,11 +82,11 @@ fetch_holds c core line = is_some (kept_of line (l1i_lines_at c core line))
 -- Loads and load-reserveds read, and so do fetches; stores, atomic operations and all store-conditionals write, also one
 -- that fails.
 abbrev pub is_write : Request → Bool
-is_write (Load addr width) = false
-is_write (Store addr width value) = true
-is_write (Lr addr width) = false
-is_write (Sc addr width value paired) = true
-is_write (Amo op addr width value) = true
+is_write (Load width addr) = false
+is_write (Store width addr value) = true
+is_write (Lr width addr) = false
+is_write (Sc width paired addr value) = true
+is_write (Amo width op addr value) = true
 is_write (Fetch addr) = false
 
 -- How the caches meet a read or a write, by the core's letter and by whether the L2 holds the line. `alone` says that

@@ -167,11 +167,11 @@ NewShardsAreOneMachine = (m : Machine) (image : MemoryImage) (entries : List Ent
 
 -- an access that is answered with this reply wrote to memory
 abbrev pub has_written : Request → (reply : ℕ) → Bool
-has_written (Load addr width) reply = false
-has_written (Store addr width value) reply = true
-has_written (Lr addr width) reply = false
-has_written (Sc addr width value paired) reply = reply == 0
-has_written (Amo op addr width value) reply = true
+has_written (Load width addr) reply = false
+has_written (Store width addr value) reply = true
+has_written (Lr width addr) reply = false
+has_written (Sc width paired addr value) reply = reply == 0
+has_written (Amo width op addr value) reply = true
 has_written (Fetch addr) reply = false
 
 -- A load of what a store wrote gives the low bytes of the number, where no access between wrote to the line.
@@ -179,7 +179,7 @@ abbrev pub ReadAfterWrite : Type 0
 ReadAfterWrite = (shards : List ShardState) (memory : MarkedMemory) (c : Caches) (store load : Entry) (between : List Entry) (left : List ShardState) (addr width value : ℕ)
     → let entries = store ∷ (between ++ (load ∷ [])) in StandFor shards memory c → AreAnswered shards entries left
     → All (λ entry. entry.core < length c.l1) entries → All (λ entry. IsServable memory.base (length memory.bytes) (have_l1i c) entry.request) entries
-    → store.request ≡ Store addr width value → load.request ≡ Load addr width → All (λ entry. IsTrue (has_written entry.request entry.reply) → line_of entry.request ≢ line_at addr) between
+    → store.request ≡ Store width addr value → load.request ≡ Load width addr → All (λ entry. IsTrue (has_written entry.request entry.reply) → line_of entry.request ≢ line_at addr) between
     → load.reply ≡ value % 256 ^ width
 
 -- Shards that stand for a machine answer whatever its cores ask of its memory.

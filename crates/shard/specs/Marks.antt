@@ -15,30 +15,30 @@ abbrev pub does_store : (marks : List (Option Reservation)) → (core addr width
 does_store marks core addr width paired = paired && is_reservation (slice_index_or marks core None) addr width
 
 unfoldable pub reply_from : (bytes : List ℕ) → (place : ℕ) → (marks : List (Option Reservation)) → (core : ℕ) → Request → ℕ
-reply_from bytes place marks core (Load addr width) = number_in bytes place width
-reply_from bytes place marks core (Store addr width value) = 0
-reply_from bytes place marks core (Lr addr width) = number_in bytes place width
-reply_from bytes place marks core (Sc addr width value paired) = if does_store marks core addr width paired then 0 else 1
-reply_from bytes place marks core (Amo op addr width value) = number_in bytes place width
+reply_from bytes place marks core (Load width addr) = number_in bytes place width
+reply_from bytes place marks core (Store width addr value) = 0
+reply_from bytes place marks core (Lr width addr) = number_in bytes place width
+reply_from bytes place marks core (Sc width paired addr value) = if does_store marks core addr width paired then 0 else 1
+reply_from bytes place marks core (Amo width op addr value) = number_in bytes place width
 reply_from bytes place marks core (Fetch addr) = 0
 
 unfoldable pub bytes_after : (bytes : List ℕ) → (place : ℕ) → (marks : List (Option Reservation)) → (core : ℕ) → Request → List ℕ
-bytes_after bytes place marks core (Load addr width) = bytes
-bytes_after bytes place marks core (Store addr width value) = with_number bytes place width value
-bytes_after bytes place marks core (Lr addr width) = bytes
-bytes_after bytes place marks core (Sc addr width value paired) =
+bytes_after bytes place marks core (Load width addr) = bytes
+bytes_after bytes place marks core (Store width addr value) = with_number bytes place width value
+bytes_after bytes place marks core (Lr width addr) = bytes
+bytes_after bytes place marks core (Sc width paired addr value) =
     if does_store marks core addr width paired then with_number bytes place width value else bytes
-bytes_after bytes place marks core (Amo op addr width value) =
+bytes_after bytes place marks core (Amo width op addr value) =
     with_number bytes place width (new_number op width (number_in bytes place width) value)
 bytes_after bytes place marks core (Fetch addr) = bytes
 
 unfoldable pub marks_after : (marks : List (Option Reservation)) → (core : ℕ) → Request → List (Option Reservation)
-marks_after marks core (Load addr width) = marks
-marks_after marks core (Store addr width value) = after_write core addr marks
-marks_after marks core (Lr addr width) = slice_set marks core (Some (record { addr = addr; width = width }))
-marks_after marks core (Sc addr width value paired) =
+marks_after marks core (Load width addr) = marks
+marks_after marks core (Store width addr value) = after_write core addr marks
+marks_after marks core (Lr width addr) = slice_set marks core (Some (record { addr = addr; width = width }))
+marks_after marks core (Sc width paired addr value) =
     slice_set (if does_store marks core addr width paired then after_write core addr marks else marks) core None
-marks_after marks core (Amo op addr width value) = after_write core addr marks
+marks_after marks core (Amo width op addr value) = after_write core addr marks
 marks_after marks core (Fetch addr) = marks
 
 -- ---- all shards

@@ -42,6 +42,6 @@ WholeIsOfOneMachine = (t : TableState) (entries : List Entry) (seats : List Seat
 abbrev pub WholeReadsAfterWrites : Type 0
 WholeReadsAfterWrites = (t : TableState) (seats : List SeatState) (left : List ShardState) (memory : MarkedMemory) (c : Caches) (before between later : List Entry) (store load : Entry) (addr width value : ℕ)
     → AreWhole t (before ++ (store ∷ (between ++ (load ∷ later)))) seats left → StandFor t.shards memory c
-    → store.request ≡ Store addr width value → load.request ≡ Load addr width
+    → store.request ≡ Store width addr value → load.request ≡ Load width addr
     → All (λ e. IsTrue (has_written e.request e.reply) → line_of e.request ≢ line_at addr) between
     → load.reply ≡ value % 256 ^ width

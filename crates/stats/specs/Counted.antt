@@ -13,27 +13,27 @@ use Rattle.stats.specs.declared.counts.CompCount.{CompCount}
 
 -- what kind of access a request is
 abbrev pub is_load : Request → Bool
-is_load (Load addr width) = true
-is_load (Store addr width value) = false
-is_load (Lr addr width) = false
-is_load (Sc addr width value paired) = false
-is_load (Amo op addr width value) = false
+is_load (Load width addr) = true
+is_load (Store width addr value) = false
+is_load (Lr width addr) = false
+is_load (Sc width paired addr value) = false
+is_load (Amo width op addr value) = false
 is_load (Fetch addr) = false
 
 abbrev pub is_store : Request → Bool
-is_store (Load addr width) = false
-is_store (Store addr width value) = true
-is_store (Lr addr width) = false
-is_store (Sc addr width value paired) = false
-is_store (Amo op addr width value) = false
+is_store (Load width addr) = false
+is_store (Store width addr value) = true
+is_store (Lr width addr) = false
+is_store (Sc width paired addr value) = false
+is_store (Amo width op addr value) = false
 is_store (Fetch addr) = false
 
 abbrev pub is_atomic : Request → Bool
-is_atomic (Load addr width) = false
-is_atomic (Store addr width value) = false
-is_atomic (Lr addr width) = true
-is_atomic (Sc addr width value paired) = true
-is_atomic (Amo op addr width value) = true
+is_atomic (Load width addr) = false
+is_atomic (Store width addr value) = false
+is_atomic (Lr width addr) = true
+is_atomic (Sc width paired addr value) = true
+is_atomic (Amo width op addr value) = true
 is_atomic (Fetch addr) = false
 
 -- how it was met

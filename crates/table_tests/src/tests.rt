@@ -180,7 +180,7 @@ fn both_add<R: Threads + Wait + Sync>(rt: &R, tested: Tested) -> Tested
 /// The doubleword to which both add.
 #[tactic(auto, unfolding(shard::specs::Served::CanServe))]
 fn doubleword(shard: &Shard) -> [u8; 8]
-    requires { CanServe shard.now (Request.Load EVEN 8) }
+    requires { CanServe shard.now (Request.Load 8 EVEN) }
 {
     let mut bytes = [0; 8];
     for place in 0..8 {

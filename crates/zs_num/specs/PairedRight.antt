@@ -7,11 +7,11 @@ use Rattle.zs_num.specs.Pairing.{is_paired, pairing_after}
 
 -- an access says of its core's pairing what it is
 abbrev pub IsPairedRight : Option Pairing → Request → Type 0
-IsPairedRight pairing (Load addr width) = Unit {0}
-IsPairedRight pairing (Store addr width value) = Unit {0}
-IsPairedRight pairing (Lr addr width) = Unit {0}
-IsPairedRight pairing (Sc addr width value paired) = paired ≡ is_paired pairing addr width
-IsPairedRight pairing (Amo op addr width value) = Unit {0}
+IsPairedRight pairing (Load width addr) = Unit {0}
+IsPairedRight pairing (Store width addr value) = Unit {0}
+IsPairedRight pairing (Lr width addr) = Unit {0}
+IsPairedRight pairing (Sc width paired addr value) = paired ≡ is_paired pairing addr width
+IsPairedRight pairing (Amo width op addr value) = Unit {0}
 IsPairedRight pairing (Fetch addr) = Unit {0}
 
 -- ---- the accesses of one core

@@ -8,11 +8,11 @@ use Rattle.zs_num.specs.declared.pairing.Pairing.{Pairing}
 
 -- the core's pairing after it made this access
 abbrev pub pairing_after : Option Pairing → Request → Option Pairing
-pairing_after pairing (Load addr width) = pairing
-pairing_after pairing (Store addr width value) = pairing
-pairing_after pairing (Lr addr width) = Some (record { addr = addr; width = width })
-pairing_after pairing (Sc addr width value paired) = None
-pairing_after pairing (Amo op addr width value) = pairing
+pairing_after pairing (Load width addr) = pairing
+pairing_after pairing (Store width addr value) = pairing
+pairing_after pairing (Lr width addr) = Some (record { addr = addr; width = width })
+pairing_after pairing (Sc width paired addr value) = None
+pairing_after pairing (Amo width op addr value) = pairing
 pairing_after pairing (Fetch addr) = pairing
 
 -- whether the core's latest load-reserved was at this address and width, and no store-conditional came since

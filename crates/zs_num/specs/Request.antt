@@ -5,29 +5,29 @@ use Rattle.zs_num.specs.declared.request.Request.TheVariants.{Load, Store, Lr, S
 
 -- the address of its lowest byte
 abbrev pub addr_of : Request → ℕ
-addr_of (Load addr width) = addr
-addr_of (Store addr width value) = addr
-addr_of (Lr addr width) = addr
-addr_of (Sc addr width value paired) = addr
-addr_of (Amo op addr width value) = addr
+addr_of (Load width addr) = addr
+addr_of (Store width addr value) = addr
+addr_of (Lr width addr) = addr
+addr_of (Sc width paired addr value) = addr
+addr_of (Amo width op addr value) = addr
 addr_of (Fetch addr) = addr
 
 -- how many bytes it reads or writes; of a fetch, those of the instruction
 abbrev pub width_of : Request → ℕ
-width_of (Load addr width) = width
-width_of (Store addr width value) = width
-width_of (Lr addr width) = width
-width_of (Sc addr width value paired) = width
-width_of (Amo op addr width value) = width
+width_of (Load width addr) = width
+width_of (Store width addr value) = width
+width_of (Lr width addr) = width
+width_of (Sc width paired addr value) = width
+width_of (Amo width op addr value) = width
 width_of (Fetch addr) = 4
 
 -- whether it is the fetch of an instruction
 abbrev pub is_fetch : Request → Bool
-is_fetch (Load addr width) = false
-is_fetch (Store addr width value) = false
-is_fetch (Lr addr width) = false
-is_fetch (Sc addr width value paired) = false
-is_fetch (Amo op addr width value) = false
+is_fetch (Load width addr) = false
+is_fetch (Store width addr value) = false
+is_fetch (Lr width addr) = false
+is_fetch (Sc width paired addr value) = false
+is_fetch (Amo width op addr value) = false
 is_fetch (Fetch addr) = true
 
 -- how many bytes a cache line has

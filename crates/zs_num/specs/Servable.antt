@@ -10,20 +10,20 @@ IsNaturallyAligned addr width = ((width ≡ 4) ⊎ (width ≡ 8)) × (addr % wid
 
 -- a load and a store may lie anywhere, and an instruction lies at a multiple of 4
 abbrev pub IsAligned : Request → Type 0
-IsAligned (Load addr width) = Unit {0}
-IsAligned (Store addr width value) = Unit {0}
-IsAligned (Lr addr width) = IsNaturallyAligned addr width
-IsAligned (Sc addr width value paired) = IsNaturallyAligned addr width
-IsAligned (Amo op addr width value) = IsNaturallyAligned addr width
+IsAligned (Load width addr) = Unit {0}
+IsAligned (Store width addr value) = Unit {0}
+IsAligned (Lr width addr) = IsNaturallyAligned addr width
+IsAligned (Sc width paired addr value) = IsNaturallyAligned addr width
+IsAligned (Amo width op addr value) = IsNaturallyAligned addr width
 IsAligned (Fetch addr) = addr % 4 ≡ 0
 
 -- only cores that have an instruction cache fetch
 abbrev pub MayFetch : (l1i : Bool) → Request → Type 0
-MayFetch l1i (Load addr width) = Unit {0}
-MayFetch l1i (Store addr width value) = Unit {0}
-MayFetch l1i (Lr addr width) = Unit {0}
-MayFetch l1i (Sc addr width value paired) = Unit {0}
-MayFetch l1i (Amo op addr width value) = Unit {0}
+MayFetch l1i (Load width addr) = Unit {0}
+MayFetch l1i (Store width addr value) = Unit {0}
+MayFetch l1i (Lr width addr) = Unit {0}
+MayFetch l1i (Sc width paired addr value) = Unit {0}
+MayFetch l1i (Amo width op addr value) = Unit {0}
 MayFetch l1i (Fetch addr) = IsTrue l1i
 
 -- What a memory of so many bytes from a base on can be asked, where cores have instruction caches or none (`l1i`): an

@@ -22,16 +22,16 @@ pub enum Outcome {
 /// One access of a core, as it was served.
 #[derive(Clone, Copy, PartialEq, Eq)]
 pub struct Entry {
-    /// The number of the core.
-    pub core: u16,
     /// By it, and then by the core, entries stand in recorded order. It is one more than the latest
     /// stamp of its core and of its bank in the interval.
     pub stamp: Stamp,
     /// The core's clock when the access began.
     pub start: Cycle,
-    pub request: Request,
     /// What the core was answered.
     pub reply: u64,
+    pub request: Request,
+    /// The number of the core.
+    pub core: u16,
     pub outcome: Outcome,
 }
 

@@ -27,35 +27,38 @@ pub enum AmoOp {
 
 /// What a core asks of memory. It lies in one line. Widths are in bytes: 1 to 8 for a
 /// load or a store, 4 for a fetch, 4 or 8 for the others. Of a `value` the low `width` bytes count.
+///
+/// Fields of one byte come first, beside the variant's own, so that few bytes between fields mean nothing: where
+/// a request is handed on, these are copied too.
 #[derive(Clone, Copy, PartialEq, Eq)]
 pub enum Request {
     Load {
-        addr: u64,
         width: u8,
+        addr: u64,
     },
     Store {
-        addr: u64,
         width: u8,
+        addr: u64,
         value: u64,
     },
     /// Load-reserved.
     Lr {
-        addr: u64,
         width: u8,
+        addr: u64,
     },
     /// Store-conditional. `paired` tells that the core's latest load-reserved was at this address
     /// and width, and that no store-conditional came since.
     Sc {
-        addr: u64,
         width: u8,
-        value: u64,
         paired: bool,
+        addr: u64,
+        value: u64,
     },
     /// An atomic read-modify-write.
     Amo {
+        width: u8,
         op: AmoOp,
         addr: u64,
-        width: u8,
         value: u64,
     },
     /// The fetch of an instruction through the core's instruction cache. It reads no byte of

@@ -173,7 +173,7 @@ module _ (stays : CoherentStays) (laws : L2Laws) (p : Bank) (are : AreParts p) (
   private_store S h line = absurd cc
   private_store I h line = absurd cc
 
-  load_same : (addr width : ℕ) (bytes : List ℕ) (place : ℕ) → bytes_after bytes place p.home.marks core (Load addr width) ≡ bytes
+  load_same : (addr width : ℕ) (bytes : List ℕ) (place : ℕ) → bytes_after bytes place p.home.marks core (Load width addr) ≡ bytes
   unfolding bytes_after
   load_same addr width bytes place = refl
 
@@ -181,7 +181,7 @@ module _ (stays : CoherentStays) (laws : L2Laws) (p : Bank) (are : AreParts p) (
   unfolding bytes_after
   fetch_same addr bytes place = refl
 
-  load_marks : (addr width : ℕ) → marks_after p.home.marks core (Load addr width) ≡ p.home.marks
+  load_marks : (addr width : ℕ) → marks_after p.home.marks core (Load width addr) ≡ p.home.marks
   unfolding marks_after
   load_marks addr width = refl
 
@@ -190,23 +190,23 @@ module _ (stays : CoherentStays) (laws : L2Laws) (p : Bank) (are : AreParts p) (
   fetch_marks addr = refl
 
   -- by what the core's own L1 has
-  load_done : (addr width : ℕ) (asked : IsAsked p core (Load addr width)) → is_some (copy_of p core (line_at addr)) ≡ true
-      → Done p (with_l1 core (used_in (line_at addr)) p) core (Load addr width) (number_of (copy_of p core (line_at addr)) (place_in_line addr) width)
+  load_done : (addr width : ℕ) (asked : IsAsked p core (Load width addr)) → is_some (copy_of p core (line_at addr)) ≡ true
+      → Done p (with_l1 core (used_in (line_at addr)) p) core (Load width addr) (number_of (copy_of p core (line_at addr)) (place_in_line addr) width)
   unfolding caches_after reply_from
   load_done addr width asked has =
       let line : ℕ = line_at addr in
       let copy = there (copy_of p core line) has in
       record {
-        accessed = order_accessed (Load addr width) asked (used_in line) (used_keeps line) (loaded_seen p are core line asked.known asked.own has) (load_same addr width) (load_marks addr width);
+        accessed = order_accessed (Load width addr) asked (used_in line) (used_keeps line) (loaded_seen p are core line asked.known asked.own has) (load_same addr width) (load_marks addr width);
         answer = ap (λ (o : Option Copy). number_of o (place_in_line addr) width) copy.1 ∙ ap (λ (b : List ℕ). number_in b (place_in_line addr) width) (sym (newest_copy p are line asked.own core copy.0 copy.1));
       }
 
-  store_done : (addr width value : ℕ) (asked : IsAsked p core (Store addr width value)) → may_write (copy_of p core (line_at addr)) ≡ true
-      → Done p (with_l1 core (λ l1. option_map_or (λ copy. kept_first_in (line_at addr) (stored (place_in_line addr) width value copy) l1) (copy_at l1 (line_at addr)) l1) p) core (Store addr width value) 0
+  store_done : (addr width value : ℕ) (asked : IsAsked p core (Store width addr value)) → may_write (copy_of p core (line_at addr)) ≡ true
+      → Done p (with_l1 core (λ l1. option_map_or (λ copy. kept_first_in (line_at addr) (stored (place_in_line addr) width value copy) l1) (copy_at l1 (line_at addr)) l1) p) core (Store width addr value) 0
   unfolding caches_after reply_from
   store_done addr width value asked free =
       let line : ℕ = line_at addr in
-      let request : Request = Store addr width value in
+      let request : Request = Store width addr value in
       let copy = free_there (copy_of p core line) free in
       let was = are.free core line copy.0 asked.own copy.1 copy.2 in
       let letter : is_alone (own_letter p core line) ≡ true = ap (λ (o : Option Copy). is_alone (letter_of o)) copy.1 ∙ was.0 in
@@ -232,22 +232,22 @@ module _ (stays : CoherentStays) (laws : L2Laws) (p : Bank) (are : AreParts p) (
 
   pub access_done : (request : Request) (asked : IsAsked p core request) → Done p (bank_after p core request) core request (bank_reply p core request)
   unfolding bank_after bank_reply shared_after shared_reply ready is_private private_after private_reply caches_after
-  access_done (Load addr width) asked =
+  access_done (Load width addr) asked =
       let line : ℕ = line_at addr in
-      let request : Request = Load addr width in
+      let request : Request = Load width addr in
       let r : Bank = ready_by (own_letter p core line) false core line p in
       done_either (is_some (copy_of p core line)) p (with_l1 core (used_in line) p) (answered core request r) core request (number_of (copy_of p core line) (place_in_line addr) width)
       (reply_from (bytes_of (copy_of r core line)) (place_in_line addr) p.home.marks core request) (load_done addr width asked) (λ _. shared_done request asked refl)
-  access_done (Store addr width value) asked =
+  access_done (Store width addr value) asked =
       let line : ℕ = line_at addr in
-      let request : Request = Store addr width value in
+      let request : Request = Store width addr value in
       let r : Bank = ready_by (own_letter p core line) true core line p in
       done_either (may_write (copy_of p core line)) p
       (with_l1 core (λ l1. option_map_or (λ copy. kept_first_in line (stored (place_in_line addr) width value copy) l1) (copy_at l1 line) l1) p) (answered core request r) core request 0
       (reply_from (bytes_of (copy_of r core line)) (place_in_line addr) p.home.marks core request) (store_done addr width value asked) (λ _. shared_done request asked refl)
-  access_done (Lr addr width) asked = shared_done (Lr addr width) asked refl
-  access_done (Sc addr width value paired) asked = shared_done (Sc addr width value paired) asked refl
-  access_done (Amo op addr width value) asked = shared_done (Amo op addr width value) asked refl
+  access_done (Lr width addr) asked = shared_done (Lr width addr) asked refl
+  access_done (Sc width paired addr value) asked = shared_done (Sc width paired addr value) asked refl
+  access_done (Amo width op addr value) asked = shared_done (Amo width op addr value) asked refl
   access_done (Fetch addr) asked =
       let line : ℕ = line_at addr in
       done_either (has_instructions (l1_of p core) line) p (with_l1 core (instruction_used_in line) p) (fetched_from core line (row_at p.home line) p) core (Fetch addr) 0 0 (fetch_done addr asked) (fetched_from_done addr asked)

@@ -48,22 +48,22 @@ changed_instructions line after l1 x = refl
 -- ---- the bytes of one line
 after_long : (request : Request) (bytes : List ℕ) (place : ℕ) (marks : List (Option Reservation)) (core : ℕ) → place + width_of request ≤ length bytes → length (bytes_after bytes place marks core request) ≡ length bytes
 unfolding bytes_after
-after_long (Load addr width) bytes place marks core l = refl
-after_long (Store addr width value) bytes place marks core l = length_written bytes place width value l
-after_long (Lr addr width) bytes place marks core l = refl
-after_long (Sc addr width value paired) bytes place marks core l =
+after_long (Load width addr) bytes place marks core l = refl
+after_long (Store width addr value) bytes place marks core l = length_written bytes place width value l
+after_long (Lr width addr) bytes place marks core l = refl
+after_long (Sc width paired addr value) bytes place marks core l =
     elim (does_store marks core addr width paired) as (λ b. length (cond b (with_number bytes place width value) bytes) ≡ length bytes) [ true ↦ length_written bytes place width value l | false ↦ refl ]
-after_long (Amo op addr width value) bytes place marks core l = length_written bytes place width (new_number op width (number_in bytes place width) value) l
+after_long (Amo width op addr value) bytes place marks core l = length_written bytes place width (new_number op width (number_in bytes place width) value) l
 after_long (Fetch addr) bytes place marks core l = refl
 
 -- what reads leaves them
 after_read : (request : Request) (bytes : List ℕ) (place : ℕ) (marks : List (Option Reservation)) (core : ℕ) → is_write request ≡ false → bytes_after bytes place marks core request ≡ bytes
 unfolding bytes_after
-after_read (Load addr width) bytes place marks core r = refl
-after_read (Store addr width value) bytes place marks core r = absurd cc
-after_read (Lr addr width) bytes place marks core r = refl
-after_read (Sc addr width value paired) bytes place marks core r = absurd cc
-after_read (Amo op addr width value) bytes place marks core r = absurd cc
+after_read (Load width addr) bytes place marks core r = refl
+after_read (Store width addr value) bytes place marks core r = absurd cc
+after_read (Lr width addr) bytes place marks core r = refl
+after_read (Sc width paired addr value) bytes place marks core r = absurd cc
+after_read (Amo width op addr value) bytes place marks core r = absurd cc
 after_read (Fetch addr) bytes place marks core r = refl
 
 both_true : (a b : Bool) → (a && not b) ≡ true → (a ≡ true) × (b ≡ false)

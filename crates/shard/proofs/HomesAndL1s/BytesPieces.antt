@@ -47,26 +47,26 @@ module _ (marks : List (Option Reservation)) (core : ℕ) where
   -- ---- what is left
   left_after : (request : Request) (a r : List ℕ) (place : ℕ) → place + width_of request ≤ length a → bytes_after (a ++ r) place marks core request ≡ bytes_after a place marks core request ++ r
   unfolding bytes_after
-  left_after (Load addr width) a r place l = refl
-  left_after (Store addr width value) a r place l = left_written a r place width value l
-  left_after (Lr addr width) a r place l = refl
-  left_after (Sc addr width value paired) a r place l =
+  left_after (Load width addr) a r place l = refl
+  left_after (Store width addr value) a r place l = left_written a r place width value l
+  left_after (Lr width addr) a r place l = refl
+  left_after (Sc width paired addr value) a r place l =
       elim (does_store marks core addr width paired) as (λ b. cond b (with_number (a ++ r) place width value) (a ++ r) ≡ cond b (with_number a place width value) a ++ r)
       [ true ↦ left_written a r place width value l | false ↦ refl ]
-  left_after (Amo op addr width value) a r place l =
+  left_after (Amo width op addr value) a r place l =
       ap (λ (n : ℕ). with_number (a ++ r) place width (new_number op width n value)) (left_number a r place width l)
       ∙ left_written a r place width (new_number op width (number_in a place width) value) l
   left_after (Fetch addr) a r place l = refl
 
   right_after : (request : Request) (a r : List ℕ) (at place : ℕ) → at ≡ length a + place → bytes_after (a ++ r) at marks core request ≡ a ++ bytes_after r place marks core request
   unfolding bytes_after
-  right_after (Load addr width) a r at place e = refl
-  right_after (Store addr width value) a r at place e = right_written a r at place width value e
-  right_after (Lr addr width) a r at place e = refl
-  right_after (Sc addr width value paired) a r at place e =
+  right_after (Load width addr) a r at place e = refl
+  right_after (Store width addr value) a r at place e = right_written a r at place width value e
+  right_after (Lr width addr) a r at place e = refl
+  right_after (Sc width paired addr value) a r at place e =
       elim (does_store marks core addr width paired) as (λ b. cond b (with_number (a ++ r) at width value) (a ++ r) ≡ a ++ cond b (with_number r place width value) r)
       [ true ↦ right_written a r at place width value e | false ↦ refl ]
-  right_after (Amo op addr width value) a r at place e =
+  right_after (Amo width op addr value) a r at place e =
       ap (λ (n : ℕ). with_number (a ++ r) at width (new_number op width n value)) (right_number a r at place width e)
       ∙ right_written a r at place width (new_number op width (number_in r place width) value) e
   right_after (Fetch addr) a r at place e = refl
@@ -74,20 +74,20 @@ module _ (marks : List (Option Reservation)) (core : ℕ) where
   -- ---- the answer
   left_reply : (request : Request) (a r : List ℕ) (place : ℕ) → place + width_of request ≤ length a → reply_from (a ++ r) place marks core request ≡ reply_from a place marks core request
   unfolding reply_from
-  left_reply (Load addr width) a r place l = left_number a r place width l
-  left_reply (Store addr width value) a r place l = refl
-  left_reply (Lr addr width) a r place l = left_number a r place width l
-  left_reply (Sc addr width value paired) a r place l = refl
-  left_reply (Amo op addr width value) a r place l = left_number a r place width l
+  left_reply (Load width addr) a r place l = left_number a r place width l
+  left_reply (Store width addr value) a r place l = refl
+  left_reply (Lr width addr) a r place l = left_number a r place width l
+  left_reply (Sc width paired addr value) a r place l = refl
+  left_reply (Amo width op addr value) a r place l = left_number a r place width l
   left_reply (Fetch addr) a r place l = refl
 
   right_reply : (request : Request) (a r : List ℕ) (at place : ℕ) → at ≡ length a + place → reply_from (a ++ r) at marks core request ≡ reply_from r place marks core request
   unfolding reply_from
-  right_reply (Load addr width) a r at place e = right_number a r at place width e
-  right_reply (Store addr width value) a r at place e = refl
-  right_reply (Lr addr width) a r at place e = right_number a r at place width e
-  right_reply (Sc addr width value paired) a r at place e = refl
-  right_reply (Amo op addr width value) a r at place e = right_number a r at place width e
+  right_reply (Load width addr) a r at place e = right_number a r at place width e
+  right_reply (Store width addr value) a r at place e = refl
+  right_reply (Lr width addr) a r at place e = right_number a r at place width e
+  right_reply (Sc width paired addr value) a r at place e = refl
+  right_reply (Amo width op addr value) a r at place e = right_number a r at place width e
   right_reply (Fetch addr) a r at place e = refl
 
 -- ---- pieces, of which one changes

@@ -131,21 +131,21 @@ either false x y z f g = g refl
 
 pub after_seen : (p : Bank) → AreParts p → (core : ℕ) (request : Request) → IsAsked p core request → caches_seen (bank_after p core request) ≡ caches_after (caches_seen p) core request
 unfolding bank_after shared_after ready caches_after is_private private_after
-after_seen p are core (Load addr width) asked =
+after_seen p are core (Load width addr) asked =
     let line : ℕ = line_at addr in
-    let request : Request = Load addr width in
+    let request : Request = Load width addr in
     either (is_some (copy_of p core line)) (with_l1 core (used_in line) p) (answered core request (ready_by (own_letter p core line) false core line p)) (after_at (caches_seen p) core line false)
     (loaded_seen p are core line asked.known asked.own) (λ _. shared_seen p are core line asked.known asked.own request refl false refl)
-after_seen p are core (Store addr width value) asked =
+after_seen p are core (Store width addr value) asked =
     let line : ℕ = line_at addr in
-    let request : Request = Store addr width value in
+    let request : Request = Store width addr value in
     let change : Copy → Copy = stored (place_in_line addr) width value in
     either (may_write (copy_of p core line)) (with_l1 core (λ l1. option_map_or (λ copy. kept_first_in line (change copy) l1) (copy_at l1 line) l1) p) (answered core request (ready_by (own_letter p core line) true core line p))
     (after_at (caches_seen p) core line true)
     (stored_seen p are core line asked.known asked.own change (λ copy. refl)) (λ _. shared_seen p are core line asked.known asked.own request refl true refl)
-after_seen p are core (Lr addr width) asked = shared_seen p are core (line_at addr) asked.known asked.own (Lr addr width) refl false refl
-after_seen p are core (Sc addr width value paired) asked = shared_seen p are core (line_at addr) asked.known asked.own (Sc addr width value paired) refl true refl
-after_seen p are core (Amo op addr width value) asked = shared_seen p are core (line_at addr) asked.known asked.own (Amo op addr width value) refl true refl
+after_seen p are core (Lr width addr) asked = shared_seen p are core (line_at addr) asked.known asked.own (Lr width addr) refl false refl
+after_seen p are core (Sc width paired addr value) asked = shared_seen p are core (line_at addr) asked.known asked.own (Sc width paired addr value) refl true refl
+after_seen p are core (Amo width op addr value) asked = shared_seen p are core (line_at addr) asked.known asked.own (Amo width op addr value) refl true refl
 after_seen p are core (Fetch addr) asked =
     let line : ℕ = line_at addr in
     either (has_instructions (l1_of p core) line) (with_l1 core (instruction_used_in line) p) (fetched_from core line (row_at p.home line) p) (by_fetches p are core line asked.known asked.own)

@@ -93,14 +93,14 @@ either_keeps false k x a c h g = g
 
 pub marks_keep : (k x core : ℕ) (request : Request) (marks : List (Option Reservation)) → x ≢ line_of request → Unmarked k x marks → Unmarked k x (marks_after marks core request)
 unfolding marks_after
-marks_keep k x core (Load addr width) marks apart h = h
-marks_keep k x core (Store addr width value) marks apart h = write_keeps core addr k x marks h
-marks_keep k x core (Lr addr width) marks apart h =
+marks_keep k x core (Load width addr) marks apart h = h
+marks_keep k x core (Store width addr value) marks apart h = write_keeps core addr k x marks h
+marks_keep k x core (Lr width addr) marks apart h =
     set_keeps core k x marks (Some (record { addr = addr; width = width })) (ne_eqb (line_at addr) x (λ e. apart (sym e))) h
-marks_keep k x core (Sc addr width value paired) marks apart h =
+marks_keep k x core (Sc width paired addr value) marks apart h =
     let stores : Bool = does_store marks core addr width paired in
     set_keeps core k x (cond stores (after_write core addr marks) marks) None refl (either_keeps stores k x (after_write core addr marks) marks (write_keeps core addr k x marks h) h)
-marks_keep k x core (Amo op addr width value) marks apart h = write_keeps core addr k x marks h
+marks_keep k x core (Amo width op addr value) marks apart h = write_keeps core addr k x marks h
 marks_keep k x core (Fetch addr) marks apart h = h
 
 pub marks_apart : (k x core : ℕ) (request : Request) (marks : List (Option Reservation)) → x ≢ line_of request → is_marked_by_others marks k x ≡ false → is_marked_by_others (marks_after marks core request) k x ≡ false
@@ -108,14 +108,14 @@ marks_apart k x core request marks apart h = of_unmarked k x (marks_after marks 
 
 pub marks_long : (core : ℕ) (request : Request) (marks : List (Option Reservation)) → length (marks_after marks core request) ≡ length marks
 unfolding marks_after
-marks_long core (Load addr width) marks = refl
-marks_long core (Store addr width value) marks = written_long core addr marks
-marks_long core (Lr addr width) marks = length-set marks core (Some (record { addr = addr; width = width }))
-marks_long core (Sc addr width value paired) marks =
+marks_long core (Load width addr) marks = refl
+marks_long core (Store width addr value) marks = written_long core addr marks
+marks_long core (Lr width addr) marks = length-set marks core (Some (record { addr = addr; width = width }))
+marks_long core (Sc width paired addr value) marks =
     let stores : Bool = does_store marks core addr width paired in
     length-set (cond stores (after_write core addr marks) marks) core None
     ∙ elim stores as (λ b. length (cond b (after_write core addr marks) marks) ≡ length marks) [ true ↦ written_long core addr marks | false ↦ refl ]
-marks_long core (Amo op addr width value) marks = written_long core addr marks
+marks_long core (Amo width op addr value) marks = written_long core addr marks
 marks_long core (Fetch addr) marks = refl
 
 -- ---- a write to a line on which no other core's mark stands

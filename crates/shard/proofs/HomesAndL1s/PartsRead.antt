@@ -105,7 +105,7 @@ module _ (w : PartsState) (are : AreAllParts w) (addr : ℕ) where
     kept_is : shard_of_line now line ≡ shard_seen q last
     kept_is = ap (λ (shards : List ShardState). shard_of_line shards line) (sym view) ∙ shard_is w are line
 
-    asked : IsAsked q 0 (Load addr 1)
+    asked : IsAsked q 0 (Load 1 addr)
     unfolding shard_seen
     asked =
         let from : (shard_seen q last).base ≤ addr = subst (λ (x : ShardState). x.base ≤ addr) kept_is begins in
@@ -117,13 +117,13 @@ module _ (w : PartsState) (are : AreAllParts w) (addr : ℕ) where
         }
 
     inside : IsInMemory q.home line
-    inside = asked_inside q (line_parts w are line) 0 (Load addr 1) asked
+    inside = asked_inside q (line_parts w are line) 0 (Load 1 addr) asked
 
     byte_is : get_or (shard_of_line now line).bytes (place_of (shard_of_line now line).caches.shards (shard_of_line now line).base addr) 0 ≡ get_or (newest_in line (bytes_at q.home line) q.l1s) (place_in_line addr) 0
     unfolding shard_seen caches_seen
     byte_is =
         ap (λ (x : ShardState). get_or x.bytes (place_of x.caches.shards x.base addr) 0) kept_is
-        ∙ byte_seen q (line_parts w are line) 0 (Load addr 1) asked
+        ∙ byte_seen q (line_parts w are line) 0 (Load 1 addr) asked
 
     -- from what the code knows of the home
     module _ (i : ℕ) (is : i ≡ bank_of_line (length w.homes) line) (home : HomeState) (home_is : home ≡ get_or w.homes i home) where

@@ -41,9 +41,9 @@ store_hits (Some copy) in_l2 alone has dirty h sound = write_hits copy.letter in
 
 pub private_hits : (l1 : L1State) (request : Request) (in_l2 alone has dirty : Bool) → is_private l1 request ≡ true → IsSound (copy_at l1 (line_of request)) → met_by_own l1 request in_l2 alone has dirty ≡ Hit
 unfolding is_private
-private_hits l1 (Load addr width) in_l2 alone has dirty h sound = load_hits (copy_at l1 (line_of (Load addr width))) in_l2 alone has dirty h sound
-private_hits l1 (Store addr width value) in_l2 alone has dirty h sound = store_hits (copy_at l1 (line_of (Store addr width value))) in_l2 alone has dirty h sound
-private_hits l1 (Lr addr width) in_l2 alone has dirty h sound = absurd cc
-private_hits l1 (Sc addr width value paired) in_l2 alone has dirty h sound = absurd cc
-private_hits l1 (Amo op addr width value) in_l2 alone has dirty h sound = absurd cc
+private_hits l1 (Load width addr) in_l2 alone has dirty h sound = load_hits (copy_at l1 (line_of (Load width addr))) in_l2 alone has dirty h sound
+private_hits l1 (Store width addr value) in_l2 alone has dirty h sound = store_hits (copy_at l1 (line_of (Store width addr value))) in_l2 alone has dirty h sound
+private_hits l1 (Lr width addr) in_l2 alone has dirty h sound = absurd cc
+private_hits l1 (Sc width paired addr value) in_l2 alone has dirty h sound = absurd cc
+private_hits l1 (Amo width op addr value) in_l2 alone has dirty h sound = absurd cc
 private_hits l1 (Fetch addr) in_l2 alone has dirty h sound = ap (λ (b : Bool). fetch_outcome_by b in_l2 dirty) h

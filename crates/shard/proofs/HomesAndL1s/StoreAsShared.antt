@@ -50,7 +50,7 @@ module _ (p : Bank) (core addr width value : ℕ) (within : core < length p.l1s)
   line = line_at addr
 
   abbrev request : Request
-  request = Store addr width value
+  request = Store width addr value
 
   abbrev modified : Copy
   modified = record copy { letter = M }

@@ -72,11 +72,11 @@ module _ (n o : ℕ) (some : 0 < n) (below : o < n) where
 
   pub private_step : (was l1 : L1State) (request : Request) → IsSeenAs n o was l1 → Apart (line_of request) → IsSeenAs n o was (private_after l1 request)
   unfolding private_after used_in instruction_used_in
-  private_step was l1 (Load addr width) seen apart = copies_step was l1 seen (line_at addr) apart (used (line_at addr))
-  private_step was l1 (Store addr width value) seen apart = private_option was l1 (line_at addr) (stored (place_in_line addr) width value) (copy_at l1 (line_at addr)) seen apart
-  private_step was l1 (Lr addr width) seen apart = seen
-  private_step was l1 (Sc addr width value paired) seen apart = seen
-  private_step was l1 (Amo op addr width value) seen apart = seen
+  private_step was l1 (Load width addr) seen apart = copies_step was l1 seen (line_at addr) apart (used (line_at addr))
+  private_step was l1 (Store width addr value) seen apart = private_option was l1 (line_at addr) (stored (place_in_line addr) width value) (copy_at l1 (line_at addr)) seen apart
+  private_step was l1 (Lr width addr) seen apart = seen
+  private_step was l1 (Sc width paired addr value) seen apart = seen
+  private_step was l1 (Amo width op addr value) seen apart = seen
   private_step was l1 (Fetch addr) seen apart = instructions_step was l1 seen (line_at addr) apart (used (line_at addr))
 
   -- ---- all L1s

@@ -166,11 +166,11 @@ module _ (other : ℕ) (change : L1State → L1State) (core : ℕ) (apart : core
 
   instructions_absent : (l1 : L1State) (request : Request) → is_private l1 request ≡ false → is_fetch request ≡ true → has_instructions l1 (line_of request) ≡ false
   unfolding is_private
-  instructions_absent l1 (Load addr width) h f = absurd cc
-  instructions_absent l1 (Store addr width value) h f = absurd cc
-  instructions_absent l1 (Lr addr width) h f = absurd cc
-  instructions_absent l1 (Sc addr width value paired) h f = absurd cc
-  instructions_absent l1 (Amo op addr width value) h f = absurd cc
+  instructions_absent l1 (Load width addr) h f = absurd cc
+  instructions_absent l1 (Store width addr value) h f = absurd cc
+  instructions_absent l1 (Lr width addr) h f = absurd cc
+  instructions_absent l1 (Sc width paired addr value) h f = absurd cc
+  instructions_absent l1 (Amo width op addr value) h f = absurd cc
   instructions_absent l1 (Fetch addr) h f = h
 
   module _ (p : Bank) (request : Request) where

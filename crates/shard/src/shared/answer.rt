@@ -50,7 +50,7 @@ fn answer_load(home: &Home, l1s: &mut [L1], core: u16, addr: u64, width: u8) -> 
     requires some { 1 ≤ width }
     requires few { width ≤ 8 }
     requires within { place_in_line addr + width ≤ line_bytes }
-    ensures after { bank_with home.now l1s.new ≡ answered core (Load addr width) (bank_with home.now l1s.old) }
+    ensures after { bank_with home.now l1s.new ≡ answered core (Load width addr) (bank_with home.now l1s.old) }
     ensures reply { result ≡ number_in (bytes_of (copy_at (slice_index_or l1s.old core no_l1) (line_at addr))) (place_in_line addr) width }
     ensures cores { length l1s.new ≡ length l1s.old }
 {
@@ -67,7 +67,7 @@ fn answer_store(home: &mut Home, l1s: &mut [L1], core: u16, addr: u64, width: u8
     requires there { IsSome (copy_at (slice_index_or l1s.old core no_l1) (line_at addr)) }
     requires few { width ≤ 8 }
     requires within { place_in_line addr + width ≤ line_bytes }
-    ensures after { bank_with home.new l1s.new ≡ answered core (Store addr width value) (bank_with home.old l1s.old) }
+    ensures after { bank_with home.new l1s.new ≡ answered core (Store width addr value) (bank_with home.old l1s.old) }
     ensures cores { length l1s.new ≡ length l1s.old }
 {
     end_other_marks(home, core, addr);

@@ -27,7 +27,7 @@ const SECOND_OWN: u64 = 0x110C0;
 fn adds<R: Wait>(rt: &R, table: &PartsTable, core: Resting, own: u64) -> Resting
     requires table { IsPartsTested table.now }
     requires core { IsResting core.seat.core 0 table.now core.seat core.places }
-    requires own { IsServable 65536 1048576 false (Request.Load own 8) }
+    requires own { IsServable 65536 1048576 false (Request.Load 8 own) }
     ensures { IsResting core.seat.core 2000 table.now result.seat result.places }
 {
     table.may_ask();

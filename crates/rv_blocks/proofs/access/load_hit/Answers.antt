@@ -20,7 +20,7 @@ pub returns-else-slot-ne0-clause-served : goal.returns-else-slot-ne0-clause-serv
 returns-else-slot-ne0-clause-served g c =
     let x = c.args.x.now in
     let rd = c.args.slot.now.rd in
-    let value = received (record { rd = 0; width = c.width_of-width.result; signed = is_signed c.args.slot.now.name }) (reply_to (request.Load 0 c.width_of-width.result) c.in-Some.reply ∷ []) in
+    let value = received (record { rd = 0; width = c.width_of-width.result; signed = is_signed c.args.slot.now.name }) (reply_to (request.Load c.width_of-width.result 0) c.in-Some.reply ∷ []) in
     let none : (rd == 0) ≡ true = search rules in
     let kept : x ≡ with_register x rd value = rw none refl in
     λ holds. serves_load c.args.memory.now g.Q.Port.gives g.Q.Port.core g.Q.Port.logged c.args.slot.now c.args.start x c.args.port.now c.width_of-width.result c.in-Some.reply value

@@ -13,5 +13,5 @@ doubleword-requires g c =
     let at : slice_get c.in_ok-shards.shards.items 0 ≡ Some c.index.result.now =
     first_there c.in_ok-shards.shards.items c.index.result.now some ∙ ap (λ (s : ShardState). Some s) (sym c.index.ensures)
     in
-    let can : IsServable 65536 1048576 false (Load 69632 8) = search rules in
-    c.in_ok-shards.ensures 0 c.index.result.now (Load 69632 8) at can (ap (λ (n : ℕ). line_of (Load 69632 8) % n) c.requires)
+    let can : IsServable 65536 1048576 false (Load 8 69632) = search rules in
+    c.in_ok-shards.ensures 0 c.index.result.now (Load 8 69632) at can (ap (λ (n : ℕ). line_of (Load 8 69632) % n) c.requires)

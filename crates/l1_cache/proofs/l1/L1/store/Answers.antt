@@ -16,7 +16,7 @@ use Rattle.std.proofs.Common.{get_or}
 use Rattle.l1_cache.proofs.l1.L1.store.Goals as goal
 
 may_not : {w : DataWays} {bytes : List (List ℕ)} {l1i : InstructionWays} (parts : AreParts w bytes l1i) (addr width value : ℕ)
-    → HasNowhere w (addr / 64) ⊎ ((p : ℕ) × (HasAt w (addr / 64) p) × ((get_or w.kept.items p no_kept).free ≡ false)) → is_private (l1_view w bytes l1i) (Store addr width value) ≡ false
+    → HasNowhere w (addr / 64) ⊎ ((p : ℕ) × (HasAt w (addr / 64) p) × ((get_or w.kept.items p no_kept).free ≡ false)) → is_private (l1_view w bytes l1i) (Store width addr value) ≡ false
 may_not parts addr width value (inl lacks) = store_none _ addr width value (copy_nowhere parts (addr / 64) lacks)
 may_not parts addr width value (inr there) = store_by _ addr width value _ (copy_there parts (addr / 64) there.0 there.1) ∙ there.2
 
@@ -61,7 +61,7 @@ invariant_of-self-2 g c =
     })
 
 may : {w : DataWays} {bytes : List (List ℕ)} {l1i : InstructionWays} (parts : AreParts w bytes l1i) (addr width value p : ℕ) → HasAt w (addr / 64) p → (get_or w.kept.items p no_kept).free ≡ true
-    → is_private (l1_view w bytes l1i) (Store addr width value) ≡ true
+    → is_private (l1_view w bytes l1i) (Store width addr value) ≡ true
 may parts addr width value p at free = store_by _ addr width value _ (copy_there parts (addr / 64) p at) ∙ free
 
 pub returns-clause-private : goal.returns-clause-private

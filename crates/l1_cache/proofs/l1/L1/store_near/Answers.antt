@@ -46,7 +46,7 @@ invariant_of-self-2 g c =
     })
 
 may : {w : DataWays} {bytes : List (List ℕ)} {l1i : InstructionWays} (parts : AreParts w bytes l1i) (addr width value p : ℕ) → HasAt w (addr / 64) p → (get_or w.kept.items p no_kept).free ≡ true
-    → is_private (l1_view w bytes l1i) (Store addr width value) ≡ true
+    → is_private (l1_view w bytes l1i) (Store width addr value) ≡ true
 may parts addr width value p at free = store_by _ addr width value _ (copy_there parts (addr / 64) p at) ∙ free
 
 pub returns-clause-private : goal.returns-clause-private
