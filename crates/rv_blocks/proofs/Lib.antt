@@ -1,5 +1,6 @@
 pub mod Accesses
 pub mod Coming
+pub mod Falling
 pub mod Fetching
 pub mod Joining
 pub mod Lists

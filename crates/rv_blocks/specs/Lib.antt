@@ -1,5 +1,6 @@
 pub mod Coming
 pub mod Decoded
+pub mod Falling
 pub mod Flows
 pub mod Served
 pub mod Slots

@@ -1,11 +1,12 @@
 //! A program whose words are decoded once.
-ghost use Rattle.std.specs.Prelude.{◌≡◌, ◌+◌, ◌-◌, ◌*◌, ◌%◌, ◌^◌, ◌≤◌, All, vec_capacity, vec_len, IfOk, IfSome, None};
+ghost use Rattle.std.specs.Prelude.{◌≡◌, ℕ, ◌+◌, ◌-◌, ◌*◌, ◌%◌, ◌^◌, ◌<◌, ◌≤◌, All, vec_capacity, vec_len, IfOk, IfSome, None};
 ghost use Rattle.rv_core.specs.Fetch.{fetched_at};
 ghost use Rattle.rv_core.specs.Decoded.{HasRegisters};
 ghost use Rattle.rv_blocks.specs.Decoded.{IsDecodedWord};
+ghost use Rattle.rv_blocks.specs.Falling.{FallsThrough};
 
 use crate::answer::{met_at, ran_to, run_last};
-use crate::blocks::{ByBlocks, OneByOne, by_blocks, one_by_one};
+use crate::blocks::{ByBlocks, OneByOne, by_blocks, cost_at, one_by_one};
 use crate::hits::{Gone, by_hits};
 use crate::making::slots_of;
 use crate::perform::place_of;
@@ -95,6 +96,20 @@ impl<'a> DecodedProgram<'a> {
             program.add(segment)?;
         }
         Ok(program)
+    }
+
+    /// How many instructions there are from the one at an address on, as far as they are known, of
+    /// which none but the last may jump: 1 where nothing is known.
+    #[inline(always)]
+    pub fn stretch(&self, pc: u64) -> u64
+        ensures some { 1 ≤ result }
+        ensures within { 1 < result → pc + 4 * result ≤ 2 ^ 48 }
+        ensures falls { (i : ℕ) → i + 1 < result → FallsThrough self.now (pc + 4 * i) }
+    {
+        match place_of(pc, self.first, self.slots.len()) {
+            Some(place) => cost_at(&self.slots, place),
+            None => 1,
+        }
     }
 
     /// Decodes the words of a segment, as far as there is room.
