@@ -502,7 +502,7 @@ fn counted_of(ran: Ran) -> u64
 
 /// Whether the instruction that left a core halted for this reason, or not halted, is counted.
 #[inline]
-fn is_counted(halted: Option<Why>) -> bool
+pub(super) fn is_counted(halted: Option<Why>) -> bool
     ensures { cost halted ≡ (if result then 1 else 0) }
 {
     matches!(halted, None | Some(Why::Exit(_)))
