@@ -1,14 +1,13 @@
--- Which worker has which cores.
-use Rattle.std.specs.Prelude.{◌≡◌, ℕ, zero, suc, ◌+◌, ◌%◌, ◌<◌, ◌≤◌, ◌==◌, if◌then◌else◌, List, [], ◌∷◌, length, map, reverse, slice_get, slice_index_or, Some}
-use Rattle.std.specs.List.{filter}
-use Rattle.std.specs.Vec.{vec_capacity}
+-- Cores that are dealt to workers, and taken back.
+use Rattle.std.specs.Prelude.{◌≡◌, ℕ, ◌<◌, List, [], ◌∷◌, length, map}
 use Rattle.zs_num.specs.declared.entry.Entry.{Entry}
 use Rattle.elf_load.specs.MemoryImage.{MemoryImage}
 use Rattle.shard_table.specs.Access.{SeatState, TableState}
 use Rattle.bound_core.specs.NumberedCores.{NumberedCore}
-use Rattle.bound_phase.specs.declared.crew.Crew.{Crew}
+use Rattle.dealing.specs.Dealing.{AreDealt}
+use Rattle.dealing.specs.Workers.{queues_of}
 use Rattle.bound_phase.specs.declared.member.Member.{Member}
-use Rattle.bound_phase.specs.Crew.{HaveRun}
+use Rattle.bound_phase.specs.Crew.{Crew, HaveRun}
 
 -- cores with their seats
 abbrev pub mates : List NumberedCore → List SeatState → List Member
@@ -16,42 +15,17 @@ mates [] seats = []
 mates (core ∷ cores) [] = []
 mates (core ∷ cores) (seat ∷ seats) = record { core = core; seat = seat } ∷ mates cores seats
 
--- those of a worker of so many
-abbrev pub share_of : (workers worker : ℕ) → List Member → List Member
-share_of workers worker members = filter (λ m. m.seat.core % workers == worker) members
+-- the workers have so many cores
+pub record HaveCores (count : ℕ) (crews : List Crew) : Type 0 where
+  pub some : 0 < length crews
+  pub members : List Member
+  pub dealt : AreDealt 0 members (queues_of crews)
+  pub size : length members ≡ count
 
--- no core yet, and room for so many
-pub record AreEmpty (cores : ℕ) (crew : Crew) : Type 0 where
-  pub none_to_run : crew.todo.items ≡ []
-  pub none_ran : crew.done.items ≡ []
-  pub todo_room : cores ≤ vec_capacity crew.todo
-  pub done_room : cores ≤ vec_capacity crew.done
-
--- a worker has its share still to run, the next one last
-pub record HaveShares (workers worker : ℕ) (members : List Member) (crew : Crew) : Type 0 where
-  pub to_run : crew.todo.items ≡ reverse (share_of workers worker members)
-  pub none_ran : crew.done.items ≡ []
-  pub done_room : length members ≤ vec_capacity crew.done
-
--- ---- after the interval
-
--- of so many numbers from 0 on, how many are the worker's
-abbrev pub size_of_share : (workers worker count : ℕ) → ℕ
-size_of_share workers worker zero = 0
-size_of_share workers worker (suc count) = (if count % workers == worker then 1 else 0) + size_of_share workers worker count
-
--- each worker has as many cores that ran as are its share of so many
-abbrev pub HaveSizes : (count : ℕ) → List Crew → Type 0
-HaveSizes count crews = (worker : ℕ) (d : Crew) → worker < length crews → length (slice_index_or crews worker d).done.items ≡ size_of_share (length crews) worker count
-
--- the seat of each is that of its number
-abbrev pub AreInOrder : List Member → Type 0
-AreInOrder members = (number : ℕ) (m : Member) → slice_get members number ≡ Some m → m.seat.core ≡ number
-
--- each worker has its share of these where they ran to
-abbrev pub SharesHaveRun : (time : Entry → ℕ) → MemoryImage → (end : ℕ) → TableState → List Member → List Crew → Type 0
-SharesHaveRun time image end t members crews = (worker : ℕ) (d : Crew) → worker < length crews
-    → HaveRun time image end t (share_of (length crews) worker members) (slice_index_or crews worker d).done.items
+-- whatever cores they had, they are these, with these seats
+abbrev pub AreReturned : (count : ℕ) → List Crew → List NumberedCore → List SeatState → Type 0
+AreReturned count crews cores seats =
+    (members : List Member) → AreDealt 0 members (queues_of crews) → length members ≡ count → (cores ≡ map (λ m. m.core) members) × (seats ≡ map (λ m. m.seat) members)
 
 -- the cores in order where they ran to, and their seats
 pub record HaveReturned (time : Entry → ℕ) (image : MemoryImage) (end : ℕ) (t : TableState) (members : List Member) (cores : List NumberedCore) (seats : List SeatState) : Type 0 where
@@ -59,8 +33,3 @@ pub record HaveReturned (time : Entry → ℕ) (image : MemoryImage) (end : ℕ)
   pub ran : HaveRun time image end t members now
   pub cores_are : cores ≡ map (λ m. m.core) now
   pub seats_are : seats ≡ map (λ m. m.seat) now
-
--- Whatever cores they were whose shares ran, they are these now.
-abbrev pub AreReturned : (count : ℕ) → List Crew → List NumberedCore → List SeatState → Type 0
-AreReturned count crews cores seats = (time : Entry → ℕ) (image : MemoryImage) (end : ℕ) (t : TableState) (members : List Member)
-    → AreInOrder members → length members ≡ count → SharesHaveRun time image end t members crews → HaveReturned time image end t members cores seats

@@ -1,10 +1,10 @@
 //! The cores of a worker, and all workers beside each other.
 ghost use Rattle.std.specs.Prelude.{◌≡◌, ◌<◌, ◌≤◌, ℕ, length, slice_index_or};
 ghost use Rattle.std.specs.Thread.{IsSync};
-ghost use Rattle.bound_phase.specs.Crew.{CanWork, HasWorked};
-ghost use Rattle.bound_phase.specs.declared.crew.Crew.{Crew};
+ghost use Rattle.bound_phase.specs.Crew.{CanWork, Crew, HasWorked};
 
 use crate::member::{Member, run};
+use dealing::Worker;
 use event_graph::Expand;
 use machine_desc::Memory;
 use rv_core::Program;
@@ -15,14 +15,8 @@ use std::thread::Threads;
 use zs_host::Gate;
 use zs_num::Cycle;
 
-/// The cores of a worker: those that have still to run, the next one last, and those that ran.
-#[derive(Drop)]
-pub(crate) struct Crew {
-    pub todo: Vec<Member>,
-    pub done: Vec<Member>,
-}
-
-/// Runs the cores of a worker to the end of the interval, one after the other.
+/// Runs the cores of a worker to the end of the interval, one after the other: the first of its queue
+/// comes behind all others as it has run.
 fn work<R: Wait, G: Gate, P: Program, X: Expand>(
     rt: &R,
     gate: &G,
@@ -32,16 +26,19 @@ fn work<R: Wait, G: Gate, P: Program, X: Expand>(
     memory: &Memory,
     end: Cycle,
     worker: u16,
-    crew: &mut Crew,
+    crew: &mut Worker<Member, ()>,
 )
     requires { CanWork table.now memory.now end crew.old }
     ensures { HasWorked (X.time expansion.now) (P.image program.now) end table.now crew.old crew.new }
 {
-    while let Some(member) = crew.todo.pop() {
+    for _ in 0..crew.queue.len() {
+        let Some(member) = crew.queue.pop_front() else {
+            unreachable!()
+        };
         let member = run(
             rt, gate, table, program, expansion, memory, end, worker, member,
         );
-        crew.done.push_reserved(member);
+        crew.queue.push_back_reserved(member);
     }
 }
 
@@ -55,7 +52,7 @@ pub(crate) fn work_all<R: Threads + Wait + Sync, G: Gate, P: Program + Sync, X: 
     expansion: &X,
     memory: &Memory,
     end: Cycle,
-    crews: &mut [Crew],
+    crews: &mut [Worker<Member, ()>],
 )
     requires some { 0 < length crews.old }
     requires few { length crews.old ≤ 64 }
@@ -69,7 +66,7 @@ pub(crate) fn work_all<R: Threads + Wait + Sync, G: Gate, P: Program + Sync, X: 
         rt,
         crews,
         threads,
-        &|worker: usize, crew: &mut Crew|
+        &|worker: usize, crew: &mut Worker<Member, ()>|
             requires { IsSync G.row × (worker < 64) × CanWork table.now memory.now end crew.now }
             ensures { HasWorked (X.time expansion.entry.now) (P.image program.entry.now) end table.entry.now crew.entry.now crew.exit.now }
         {

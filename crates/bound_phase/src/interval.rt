@@ -2,13 +2,16 @@
 ghost use Rattle.std.specs.Prelude.{◌≡◌, ◌<◌, ◌≤◌, ◌+◌, ◌^◌, ◌*◌, [], All, length, map, vec_capacity, IfOk, IfErr, OnOk};
 ghost use Rattle.machine_desc.specs.Machine.{IsMachine};
 ghost use Rattle.bound_core.specs.TimedCore.{beside_cycles};
+ghost use Rattle.dealing.specs.Workers.{AreFree};
 ghost use Rattle.bound_phase.specs.Bounds.{HaveNewSeats, CanBound, HasConsoleRoom, HaveEndedInterval, IsBound};
-ghost use Rattle.bound_phase.specs.Shares.{AreEmpty, HaveReturned, mates};
+ghost use Rattle.bound_phase.specs.Shares.{HaveReturned, mates};
 
-use crate::crew::{Crew, work_all};
-use crate::hiring::{crews, hire, let_go};
+use crate::crew::work_all;
+use crate::hiring::{hire, let_go};
+use crate::member::Member;
 use access_log::{CoreLog, Merger};
 use bound_core::{BESIDE_CYCLES, BoundCore};
+use dealing::Worker;
 use event_graph::Expand;
 use machine_desc::Machine;
 use rv_core::Program;
@@ -186,18 +189,20 @@ fn run_crews<R: Threads + Wait + Sync, G: Gate, P: Program + Sync, X: Expand + S
     end: Cycle,
     cores: Vec<BoundCore>,
     seats: Vec<CoreSeat>,
-    crews: &mut [Crew],
+    crews: &mut [Worker<Member, ()>],
     back: &mut Vec<BoundCore>,
     seats_back: &mut Vec<CoreSeat>,
 )
     requires machine { IsMachine machine.now }
     requires end { end ≤ 2 ^ 60 }
     requires hired { HaveNewSeats machine.now end table.now cores.items seats.items }
-    requires crews { (0 < length crews.old) × (length crews.old ≤ 64) × All (AreEmpty machine.now.cores) crews.old }
+    requires crews { (0 < length crews.old) × (length crews.old ≤ 64) × AreFree machine.now.cores crews.old }
     requires back { (back.old.items ≡ []) × (machine.now.cores ≤ vec_capacity back.old) }
     requires seats_back { (seats_back.old.items ≡ []) × (machine.now.cores ≤ vec_capacity seats_back.old) }
     ensures { HaveReturned (X.time expansion.now) (P.image program.now) end table.now (mates cores.items seats.items) back.new.items seats_back.new.items }
 {
+    dealing::laws::dealt_are_among_these::<Member, ()>();
+    dealing::laws::changed_are_dealt::<Member, ()>();
     hire(cores, seats, crews);
     work_all(
         rt,
@@ -233,7 +238,7 @@ fn room_of(machine: &Machine) -> u32
 
 /// All memory that a bound phase takes, beside that of the table.
 struct Buffers {
-    crews: Vec<Crew>,
+    crews: Vec<Worker<Member, ()>>,
     back: Vec<BoundCore>,
     seats_back: Vec<CoreSeat>,
     merger: Merger,
@@ -254,14 +259,18 @@ impl Buffers {
         ensures timed { map (λ c. c.timed) cores.new ≡ map (λ c. c.timed) cores.old }
         ensures number { map (λ c. c.number) cores.new ≡ map (λ c. c.number) cores.old }
         ensures spare { OnOk result (All (HasConsoleRoom (machine.now.interval + beside_cycles)) cores.new) }
-        ensures crews { IfOk result (λ m. (0 < length m.crews.items) × (length m.crews.items ≤ 64) × All (AreEmpty machine.now.cores) m.crews.items) }
+        ensures crews { IfOk result (λ m. (0 < length m.crews.items) × (length m.crews.items ≤ 64) × AreFree machine.now.cores m.crews.items) }
         ensures back { IfOk result (λ m. (m.back.items ≡ []) × (machine.now.cores ≤ vec_capacity m.back)) }
         ensures seats { IfOk result (λ m. (m.seats_back.items ≡ []) × (machine.now.cores ≤ vec_capacity m.seats_back)) }
         ensures merger { IfOk result (λ m. m.merger ≡ machine.now.cores * (machine.now.interval + beside_cycles)) }
     {
         reserve_all(cores, machine.interval)?;
         Ok(Buffers {
-            crews: crews(alloc, workers.min(machine.cores), machine.cores)?,
+            crews: dealing::workers(
+                alloc,
+                usize::from(workers.min(machine.cores)),
+                usize::from(machine.cores),
+            )?,
             back: Vec::with_capacity(alloc, usize::from(machine.cores))?,
             seats_back: Vec::with_capacity(alloc, usize::from(machine.cores))?,
             merger: Merger::over(list, u32::from(machine.cores) * room_of(machine))?,

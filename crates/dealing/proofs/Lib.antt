@@ -1,0 +1,5 @@
+mod Shares
+mod Steps
+mod Stays
+mod Changes
+mod OfWorkers
