@@ -15,3 +15,4 @@ mod BoundServed
 mod BoundTurns
 mod Sending
 mod OfOneKind
+mod Giving

@@ -1,16 +1,22 @@
 -- Jobs of one kind, given out and taken in.
-use Rattle.std.proofs.Common.{All, ◌≡◌, ◌<◌, ◌+◌, ◌++◌, ◌∷◌, [], List, get_or, length, map, sym, ◌∙◌, ap, subst, arith, append_assoc, zero, suc}
+use Rattle.std.proofs.Common.{All, ◌≡◌, ◌<◌, ◌++◌, ◌∷◌, [], List, get_or, length, map, refl, sym, ◌∙◌, ap, subst, arith, append_assoc, suc}
 use Rattle.std.specs.Arc.{arc_value}
 use Rattle.std.specs.List.{remove}
 use Rattle.std.proofs.lemmas.List.{get_or-map, length-map, map-append}
 use Rattle.noc_mesh.specs.NetTiming.{net_time}
 use Rattle.crew.specs.Sharing.{AreDone}
+use Rattle.component.specs.ComponentStep.{comp_step}
+use Rattle.component.specs.declared.comp.Comp.{Comp}
+use Rattle.weave_run.specs.Shares.{HasRunShare}
+use Rattle.weave_run.specs.declared.share.DomainShare.{DomainShare}
+use Rattle.weave_run.specs.declared.way.WatchedDomains.{WatchedDomains}
+use Rattle.bound_workers.specs.Carrying.{CarriesShares}
 use Rattle.bound_workers.specs.Team.{HasWorked}
-use Rattle.bound_workers.specs.Works.{AreCores, HasDone, HasShared, IsOrder}
+use Rattle.bound_workers.specs.Works.{AreCores, CanDo, HasDone, HasShared, IsOrder}
 use Rattle.bound_workers.specs.declared.ordering.Ordering.{Ordering}
 use Rattle.bound_workers.specs.declared.share.Share.{Share}
 use Rattle.bound_workers.specs.declared.work.Work.{Work}
-use Rattle.bound_workers.specs.declared.work.Work.TheVariants.{Cores, Order}
+use Rattle.bound_workers.specs.declared.work.Work.TheVariants.{Cores, Domains, Order}
 
 -- all but the first
 pub rest_all : {X : Type 0} (P : X → Type 0) (xs : List X) → All P xs → All P (remove xs 0)
@@ -66,10 +72,20 @@ module _ {R G : Type 0} where
   pub cores_answer : (s : Share R G) (w : Work R G) → HasDone (Cores s) w → AreCores w
   cores_answer s (Cores t) did = tt
   cores_answer s (Order o) did = did
+  cores_answer s (Domains d) did = did
 
   pub order_answer : (o : Ordering) (w : Work R G) → HasDone {R = R} {G = G} (Order o) w → IsOrder w
   order_answer o (Cores t) did = did
   order_answer o (Order p) did = tt
+  order_answer o (Domains d) did = did
+
+  pub carries_shares : CarriesShares {W = WatchedDomains G} {J = Work R G} (λ d. Domains d) (λ w. CanDo w) (λ v w. HasDone v w)
+  carries_shares = record { may = λ s can. can; did = did }
+    where
+      did : (s : DomainShare Comp (WatchedDomains G)) (answer : Work R G) → HasDone {R = R} {G = G} (Domains s) answer → (t : DomainShare Comp (WatchedDomains G)) × ((answer ≡ Domains t) × HasRunShare comp_step s t)
+      did s (Cores t) h = absurd h
+      did s (Order o) h = absurd h
+      did s (Domains t) h = (t, (refl, h))
 
   pub cores_done : (s t : Share R G) (w : Work R G) → w ≡ Cores s → arc_value t.table ≡ arc_value s.table
       → HasWorked (λ e. net_time s.net.now.path e) s.program.now s.end (arc_value s.table) s.team t.team → HasDone w (Cores t)

@@ -9,7 +9,8 @@ use Rattle.std.proofs.Crossing as std
 use Rattle.std.specs.contracts.alloc.Global as heap
 use Rattle.std.specs.contracts.impls.GlobalAllocator.TheImpl.{ghosts}
 use Rattle.std.specs.contracts.sync.Arc as arc
-use Rattle.std.specs.contracts.vec.Vec as vec
+use Rattle.std.specs.contracts.option.Option as option
+use Rattle.std.specs.contracts.collections.VecDeque as deque
 use Rattle.bound_core.proofs.bounded.BoundCore.TheSendSync as cores
 use Rattle.bound_core.specs.contracts.bounded.BoundCore as core
 use Rattle.bound_records.proofs.record_port.CoreRecord.TheSendSync as records
@@ -18,6 +19,7 @@ use Rattle.machine_desc.specs.contracts.machine.Memory as memory
 use Rattle.noc_mesh.proofs.net.Net.TheSendSync as nets
 use Rattle.noc_mesh.specs.contracts.net.Net as net
 use Rattle.parts_table.proofs.places.Places.TheSendSync as placed
+use Rattle.parts_table.specs.contracts.places.Places as places
 use Rattle.parts_table.proofs.seat.CoreSeat.TheSendSync as seats
 use Rattle.parts_table.specs.contracts.seat.CoreSeat as seat
 use Rattle.parts_table.proofs.table.PartsTable.TheSendSync as tables
@@ -26,11 +28,14 @@ use Rattle.rv_blocks.proofs.decoded_program.DecodedProgram.TheSendSync as progra
 use Rattle.rv_blocks.specs.contracts.decoded_program.DecodedProgram as program
 use Rattle.access_record.proofs.buffers.OrderBuffers.TheSendSync as buffers
 use Rattle.access_record.proofs.unordered.Unordered.TheSendSync as unordered
-use Rattle.access_record.specs.contracts.unordered.Unordered as accesses
+use Rattle.component.proofs.comp.Comp.TheSendSync as comp_is
+use Rattle.component.specs.contracts.comp.Comp as comp
+use Rattle.component.specs.contracts.comp.CompComponent.TheImpl as comps
+use Rattle.weave_run.proofs.Sending as domains
 use Rattle.bound_workers.specs.contracts.member.Member as member
 use Rattle.bound_workers.specs.contracts.ordering.Ordering as ordering
 use Rattle.bound_workers.specs.contracts.share.Share as share
-use Rattle.bound_workers.specs.contracts.team.Team as team
+use Rattle.dealing.specs.contracts.worker.Worker as worker
 use Rattle.bound_workers.specs.contracts.work.Work as work
 
 table_send : IsSend (as_row (arc.the_field table.the_row heap.the_row ghosts))
@@ -39,11 +44,12 @@ table_send = as_row_send (arc.the_field table.the_row heap.the_row ghosts) (std.
 member_send : IsSend member.the_row
 member_send = declared_send member.the_type (as_row_send core.the_field cores.the_send, (as_row_send seat.the_field seats.the_send, (records.the_send, tt)))
 
-members_send : IsSend (as_row (vec.the_field member.the_row heap.the_row ghosts))
-members_send = as_row_send (vec.the_field member.the_row heap.the_row ghosts) (std.Vec-send member.the_row member_send)
-
-team_send : IsSend team.the_row
-team_send = declared_send team.the_type (members_send, (members_send, (search (sendable, std.crosses, placed.the_send) depth 20, tt)))
+team_send : IsSend (worker.the_row member.the_row (option.the_row places.the_row))
+team_send =
+    declared_send (worker.the_type member.the_row (option.the_row places.the_row)) (
+      as_row_send (deque.the_field member.the_row heap.the_row ghosts) (std.Deque-send member.the_row member_send),
+      (search (sendable, std.crosses, placed.the_send) depth 20, tt),
+    )
 
 number_send : IsSend (as_row u64-field)
 number_send = search (sendable, std.crosses) depth 20
@@ -80,4 +86,4 @@ module _ (ℓ : NamedLft) where
         )
 
     pub work_send : IsSend (work.the_row ℓ R G)
-    work_send = variants_send (work.enum ℓ R G) ((share_send, tt), ((ordering_send, tt), tt))
+    work_send = variants_send (work.enum ℓ R G) ((share_send, tt), ((ordering_send, tt), ((domains.share_send comp.the_row comps.ghosts comp_is.the_send ℓ G g, tt), tt)))

@@ -8,8 +8,7 @@ use Rattle.noc_mesh.specs.declared.net.Net.{Net}
 use Rattle.noc_mesh.specs.NetTiming.{net_time}
 use Rattle.parts_table.specs.Access.{TableState}
 use Rattle.crew.specs.Sharing.{AreDone}
-use Rattle.bound_workers.specs.Team.{CanWork, HasWorked}
-use Rattle.bound_workers.specs.declared.team.Team.{Team}
+use Rattle.bound_workers.specs.Team.{CanWork, HasWorked, Team}
 
 -- ---- the cores in the shares
 

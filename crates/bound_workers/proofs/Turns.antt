@@ -1,11 +1,14 @@
 -- Cores that are seated run to the end of the interval.
-use Rattle.std.proofs.Common.{◌≡◌, ℕ, suc, ◌+◌, ◌<◌, ◌≤◌, ◌*◌, ◌^◌, List, [], ◌∷◌, All, length, map, sym, ◌∙◌, ap, refl, subst, arith, rules}
+use Rattle.std.proofs.Common.{◌≡◌, ℕ, suc, ◌+◌, ◌<◌, ◌≤◌, ◌*◌, ◌^◌, List, [], ◌∷◌, All, length, get_or, map, sym, ◌∙◌, ap, refl, subst, arith, rules}
 use Rattle.std.specs.Prelude.{slice_get, Some, None, Option, IsNone, is_none}
-use Rattle.std.proofs.lemmas.List.{length-reverse}
-use Rattle.std.proofs.lemmas.List.Elements.{All-cons, All-filter, All-nil}
+use Rattle.std.specs.VecDeque.{deque_capacity}
+use Rattle.std.proofs.lemmas.List.{get_or-map, length-map}
+use Rattle.std.proofs.lemmas.List.Elements.{All-cons, All-map, All-nil}
+use Rattle.std.proofs.lemmas.Option.{slice_get-get_or}
 use Rattle.machine_desc.specs.declared.machine.Machine.{Machine}
 use Rattle.rv_core.specs.declared.why.Why.{Why}
 use Rattle.parts_table.specs.Access.{IsSeatOf, SeatState, TableState, opening_shards}
+use Rattle.parts_table.specs.Places.{PlacesState}
 use Rattle.parts_table.specs.declared.view.Made.{Made}
 use Rattle.access_record.specs.Laws.{beyond_hits}
 use Rattle.zs_num.specs.declared.entry.Entry.{Entry}
@@ -14,15 +17,18 @@ use Rattle.bound_core.specs.ShardPort.{AreShardsOf}
 use Rattle.bound_records.specs.Counted.{count_of}
 use Rattle.bound_records.specs.Recorders.{core_room}
 use Rattle.bound_records.specs.declared.record_port.CoreRecord.{CoreRecord}
-use Rattle.bound_workers.specs.Team.{CanWork, HasPlaces}
+use Rattle.bound_workers.specs.Team.{CanWork, HasPlaces, IsFree, Team}
 use Rattle.bound_workers.specs.Intervals.{HaveSeats, IsNewRecord, IsReady}
 use Rattle.bound_workers.specs.Kept.{IsKeptAtWork, entries_of_seat}
 use Rattle.bound_workers.specs.Member.{CanRun}
-use Rattle.bound_workers.specs.Shares.{AreInOrder, HaveShares, mates, share_of}
-use Rattle.bound_workers.specs.declared.team.Team.{Team}
+use Rattle.dealing.specs.Dealing.{AreDealt}
+use Rattle.dealing.specs.Laws.{AreAmongThese}
+use Rattle.dealing.specs.Workers.{AreFree, queues_of, tools_of}
+use Rattle.bound_workers.specs.Shares.{mates}
 use Rattle.bound_workers.specs.declared.member.Member.{Member}
-use Rattle.bound_workers.proofs.Shares.{few_share, is_of, mates_length}
-use Rattle.bound_workers.proofs.Whole.{all_reversed, at_below, in_order}
+use Rattle.bound_workers.proofs.Ending.{all_at, all_here}
+use Rattle.bound_workers.proofs.Shares.{mates_length}
+use Rattle.bound_workers.proofs.Whole.{at_below}
 
 none_of : (halted : Option Why) → IsNone halted → halted ≡ None
 none_of None none = refl
@@ -93,21 +99,32 @@ module _ (m : Machine) (end : ℕ) (t : TableState) (cores : List NumberedCore) 
       (λ i s at. let e = seated.seats_new.1 i s at in let same : i ≡ 0 + i = omega arith in (e.0, e.1 ∙ same, e.2))
       (λ i r at. let same : i ≡ 0 + i = omega arith in subst (λ (k : ℕ). IsNewRecord t k r) same (seated.none_kept i r at))
 
-  pub members_in_order : AreInOrder (mates cores seats records)
-  members_in_order = λ number x at.
-      let same : number ≡ 0 + number = omega arith in
-      in_order 0 cores seats records (λ i s there. let e = seated.seats_new.1 i s there in let here : i ≡ 0 + i = omega arith in e.1 ∙ here) number x at ∙ sym same
-
   pub members_length : length (mates cores seats records) ≡ t.cores
   members_length = mates_length cores seats records as_many_seats seated.many ∙ seated.count
 
   pub members_count : length (mates cores seats records) ≡ m.cores
   members_count = members_length ∙ seated.cores_are
 
-  pub team_can : (workers worker : ℕ) (team : Team) → HaveShares workers worker (mates cores seats records) team → CanWork t m.memory end team
-  team_can workers worker team shares = record {
-    can = subst (All (CanRun t m.memory end)) (sym shares.to_run) (all_reversed (CanRun t m.memory end) (share_of workers worker (mates cores seats records)) (All-filter (is_of workers worker) (CanRun t m.memory end) (mates cores seats records) members_can));
-    none_done = shares.none_ran;
-    room = (let size = ap length shares.to_run ∙ length-reverse (share_of workers worker (mates cores seats records)) in let few = few_share workers worker (mates cores seats records) in let room = shares.done_room in omega (arith, size, few, room));
-    places = subst (λ (n : ℕ). HasPlaces n team.places) members_length shares.places;
-  }
+  pub team_can : AreAmongThese Member (Option PlacesState) → (first teams : List Team) → All (IsFree m.cores) first → tools_of teams ≡ tools_of first → AreDealt 0 (mates cores seats records) (queues_of teams) → (worker : ℕ) (d : Team)
+      → worker < length teams → CanWork t m.memory end (get_or teams worker d)
+  team_can among first teams free places dealt worker d within =
+      let tools : Team → Option PlacesState = λ w. w.tools in
+      let many = length-map teams tools in
+      let same = ap length places in
+      let before = length-map first tools in
+      let there : worker < length first = omega (arith, within, many, same, before) in
+      let is : (get_or first worker d).tools ≡ (get_or teams worker d).tools =
+      sym (get_or-map tools first worker d None there) ∙ (ap (λ (xs : List (Option PlacesState)). get_or xs worker None) (sym places) ∙ get_or-map tools teams worker d None within) in
+      record {
+        can = all_at (CanRun t m.memory end) (get_or teams worker d).queue.items (λ place x at.
+            let inside = among 0 (mates cores seats records) teams dealt worker place (get_or teams worker d) x (slice_get-get_or teams worker d within) at in
+            all_here (CanRun t m.memory end) (mates cores seats records) inside.0 x members_can inside.1);
+        places = subst (λ (n : ℕ). HasPlaces n (get_or teams worker d).tools) (sym seated.cores_are) (subst (HasPlaces m.cores) is (free worker d there).places);
+      }
+
+-- free workers have nothing, and room
+pub are_free : (cores : ℕ) (teams : List Team) → All (IsFree cores) teams → AreFree cores teams
+are_free cores teams free = record {
+  none = λ worker within. All-map (λ (items : List Member). items ≡ []) (λ (w : Team). w.queue.items) teams (λ i d there. (free i d there).none) worker [] within;
+  room = All-map (λ (n : ℕ). cores ≤ n) (λ (w : Team). deque_capacity w.queue) teams (λ i d there. (free i d there).room);
+}

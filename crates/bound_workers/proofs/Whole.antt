@@ -1,28 +1,22 @@
 -- What the bound phase by several workers comes to.
 use Rattle.std.proofs.Common.{◌≡◌, ℕ, zero, suc, ◌+◌, ◌%◌, ◌^◌, ◌<◌, ◌≤◌, List, [], ◌∷◌, ◌++◌, All, length, get_or, map, set, reverse, refl, sym, ◌∙◌, ap, subst, arith, inl, inr}
-use Rattle.std.specs.Prelude.{slice_get, Some, None}
+use Rattle.std.specs.Prelude.{slice_get, Option, Some, None}
 use Rattle.std.proofs.lemmas.Bool.{cases_eq}
 use Rattle.std.proofs.lemmas.List.{length-append, reverse-append, reverse-reverse}
 use Rattle.std.proofs.lemmas.List.Elements.{All-cons, All-head, All-nil, All-push, All-tail}
-use Rattle.std.proofs.lemmas.Option.{same_Some}
+use Rattle.std.proofs.lemmas.Option.{get_or_from_slice_get, same_Some, slice_get_within}
 use Rattle.zs_num.specs.declared.entry.Entry.{Entry}
 use Rattle.elf_load.specs.MemoryImage.{MemoryImage}
 use Rattle.parts_table.specs.Access.{SeatState, TableState}
+use Rattle.parts_table.specs.Places.{PlacesState}
+use Rattle.dealing.specs.Laws.{AreChanged, HaveAsMany}
 use Rattle.bound_core.specs.NumberedCores.{NumberedCore}
 use Rattle.bound_records.specs.declared.record_port.CoreRecord.{CoreRecord}
-use Rattle.bound_workers.specs.declared.team.Team.{Team}
 use Rattle.bound_workers.specs.declared.member.Member.{Member}
-use Rattle.bound_workers.specs.Team.{HasWorked, HaveRun}
+use Rattle.bound_workers.specs.Team.{HasWorked, HaveRun, Team}
 use Rattle.bound_workers.specs.Member.{HasRun}
-use Rattle.bound_workers.specs.Shares.{AreInOrder, HaveShares, HaveSizes, SharesHaveRun, mates, share_of, size_of_share}
-use Rattle.bound_workers.proofs.Returns.{last_at, last_there, earlier_at, other_last, other_size, own_last, own_size}
 
 -- ---- lists
-
-pub all_reversed : {X : Type 0} (P : X → Type 0) (xs : List X) → All P xs → All P (reverse xs)
-all_reversed P [] all = all
-all_reversed P (x ∷ xs) all =
-    subst (All P) (sym (reverse-append (x ∷ []) xs)) (All-push P (reverse xs) x (all_reversed P xs (All-tail P x xs all)) (All-head P x xs all))
 
 first_same : {X Y : Type 0} (f : X → Y) (x z : X) (xs ys : List X) → map f (z ∷ ys) ≡ map f (x ∷ xs) → f z ≡ f x
 first_same f x z xs ys same = let heads : f z ∷ map f ys ≡ f x ∷ map f xs = same in cc
@@ -37,40 +31,6 @@ agreed_at f [] (z ∷ ys) i y same at = absurd (let size = ap length same in ome
 agreed_at f (x ∷ xs) [] i y same at = absurd (let none : None ≡ Some y = at in cc)
 agreed_at f (x ∷ xs) (z ∷ ys) zero y same at = (x, refl, ap f (sym (same_Some z y at)) ∙ first_same f x z xs ys same)
 agreed_at f (x ∷ xs) (z ∷ ys) (suc i) y same at = agreed_at f xs ys i y (rest_same f x z xs ys same) at
-
--- ---- in order
-
-pub in_order : (base : ℕ) (cores : List NumberedCore) (seats : List SeatState) (records : List CoreRecord) → ((i : ℕ) (s : SeatState) → slice_get seats i ≡ Some s → s.core ≡ base + i)
-    → (number : ℕ) (x : Member) → slice_get (mates cores seats records) number ≡ Some x → x.seat.core ≡ base + number
-in_order base [] seats records order number x at = absurd (let none : None ≡ Some x = at in cc)
-in_order base (c ∷ cores) [] records order number x at = absurd (let none : None ≡ Some x = at in cc)
-in_order base (c ∷ cores) (s ∷ seats) [] order number x at = absurd (let none : None ≡ Some x = at in cc)
-in_order base (c ∷ cores) (s ∷ seats) (r ∷ records) order zero x at = ap (λ (y : Member). y.seat.core) (sym (same_Some (record { core = c; seat = s; «record» = r }) x at)) ∙ order 0 s refl
-in_order base (c ∷ cores) (s ∷ seats) (r ∷ records) order (suc number) x at =
-    let shift : (k : ℕ) → base + suc k ≡ (base + 1) + k = λ k. omega arith in
-    in_order (base + 1) cores seats records (λ k y there. order (suc k) y there ∙ shift k) number x at ∙ sym (shift number)
-
-pub share_size : (workers worker count : ℕ) (members : List Member) → AreInOrder members → length members ≡ count → length (share_of workers worker members) ≡ size_of_share workers worker count
-share_size workers worker zero [] order size = refl
-share_size workers worker zero (x ∷ members) order size = absurd (omega (arith, size))
-share_size workers worker (suc count) members order size =
-    let last = last_there members count size in
-    let ms : List Member = last.0 in
-    let x : Member = last.1 in
-    let fewer : length ms ≡ count = let a = length-append ms (x ∷ []) in let b = ap length last.2 in omega (arith, a, b, size) in
-    let number : x.seat.core ≡ count = order (length ms) x (ap (λ xs. slice_get xs (length ms)) last.2 ∙ last_at ms x) ∙ fewer in
-    let earlier : AreInOrder ms = λ k y at. order k y (ap (λ xs. slice_get xs k) last.2 ∙ earlier_at ms (x ∷ []) k y at) in
-    let before = share_size workers worker count ms earlier fewer in
-    let whole : share_of workers worker members ≡ share_of workers worker (ms ++ x ∷ []) = ap (share_of workers worker) last.2 in
-    elim (cases_eq (count % workers) worker) as (λ _. length (share_of workers worker members) ≡ size_of_share workers worker (suc count)) [
-      | inl own ↦
-          let is = ap length (whole ∙ own_last workers worker ms x (ap (λ n. n % workers) number ∙ own)) in
-          let more = length-append (share_of workers worker ms) (x ∷ []) in
-          let size_is = own_size workers worker count own in
-          omega (arith, is, more, before, size_is)
-      | inr other ↦
-          ap length (whole ∙ other_last workers worker ms x (λ same. other (ap (λ n. n % workers) (sym number) ∙ same))) ∙ (before ∙ sym (other_size workers worker count other))
-    ]
 
 -- ---- what ran
 
@@ -89,21 +49,30 @@ module _ (time : Entry → ℕ) (image : MemoryImage) (end : ℕ) (t : TableStat
   ran_at (x ∷ before) (z ∷ after) ran zero y at = (x, refl, subst (HasRun time image end t x) (same_Some z y at) ran.0)
   ran_at (x ∷ before) (z ∷ after) ran (suc i) y at = ran_at before after ran.1 i y at
 
-  -- each worker has its share where it ran to
-  pub shares_ran : (members : List Member) (teams before after : List Team) → length before ≡ length teams → length after ≡ length before
-      → ((w : ℕ) (d : Team) → w < length teams → HaveShares (length teams) w members (get_or before w d))
-      → ((w : ℕ) (d : Team) → w < length before → HasWorked time image end t (get_or before w d) (get_or after w d)) → SharesHaveRun time image end t members after
-  shares_ran members teams before after count same shares worked = λ w d within.
-      let inside : w < length before = omega (arith, within, same) in
-      let it = shares w d (omega (arith, inside, count)) in
-      let ran = (worked w d inside).ran in
-      let share : reverse (get_or before w d).todo.items ≡ share_of (length teams) w members = ap reverse it.to_run ∙ reverse-reverse (share_of (length teams) w members) in
-      subst (λ n. HaveRun time image end t (share_of n w members) (get_or after w d).done.items) (sym (same ∙ count))
-      (subst (λ xs. HaveRun time image end t xs (get_or after w d).done.items) share ran)
+  -- the same, by places
+  pub ran_each : (before after : List Member) → length after ≡ length before → ((i : ℕ) (x y : Member) → slice_get before i ≡ Some x → slice_get after i ≡ Some y → HasRun time image end t x y)
+      → HaveRun time image end t before after
+  ran_each [] [] size each = tt
+  ran_each [] (y ∷ after) size each = absurd (omega (arith, size))
+  ran_each (x ∷ before) [] size each = absurd (omega (arith, size))
+  ran_each (x ∷ before) (y ∷ after) size each = (each 0 x y refl refl, ran_each before after (omega (arith, size)) (λ i v w at there. each (suc i) v w at there))
 
-  pub sizes_ran : (count : ℕ) (members : List Member) (teams : List Team) → AreInOrder members → length members ≡ count → SharesHaveRun time image end t members teams → HaveSizes count teams
-  sizes_ran count members teams order size shares = λ w d within.
-      as_many (share_of (length teams) w members) (get_or teams w d).done.items (shares w d within) ∙ share_size (length teams) w count members order size
+  -- the workers have those that ran, in the places of the others
+  module _ (before after : List Team) (count : length after ≡ length before) (worked : (i : ℕ) (d : Team) → i < length before → HasWorked time image end t (get_or before i d) (get_or after i d)) where
+    worked_at : (i : ℕ) (w v : Team) → slice_get before i ≡ Some w → slice_get after i ≡ Some v → HasWorked time image end t w v
+    worked_at i w v was is =
+        subst (λ (x : Team). HasWorked time image end t x v) (get_or_from_slice_get before i w w was)
+        (subst (HasWorked time image end t (get_or before i w)) (get_or_from_slice_get after i v w is) (worked i w (slice_get_within before i w was)))
+
+    pub have_as_many : HaveAsMany Member (Option PlacesState) before after
+    have_as_many = record { count = count; each = λ i w v was is. as_many w.queue.items v.queue.items (worked_at i w v was is).ran }
+
+    pub changed_ran : (members : List Member) (it : AreChanged Member (Option PlacesState) 0 members before after) → HaveRun time image end t members it.now
+    changed_ran members it =
+        ran_each members it.now it.count (λ i x y at there.
+        let alike = it.alike i x y at there in
+        let ran = ran_at alike.was.queue.items alike.is.queue.items (worked_at alike.worker alike.was alike.is alike.before_there alike.after_there).ran alike.place y alike.y_there in
+        subst (λ (z : Member). HasRun time image end t z y) (same_Some ran.0 x (sym ran.1 ∙ alike.x_there)) ran.2)
 
 -- what is made of a list's elements, where one of them changed and not in that
 pub same_made : {X Y : Type 0} (f : X → Y) (xs : List X) (i : ℕ) (y d : X) → f y ≡ f (get_or xs i d) → i < length xs → map f (set xs i y) ≡ map f xs

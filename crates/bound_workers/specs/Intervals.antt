@@ -1,5 +1,5 @@
 -- The bound phase of an interval by several workers.
-use Rattle.std.specs.Prelude.{◌≡◌, ℕ, ◌+◌, ◌*◌, ◌<◌, ◌≤◌, List, [], All, length, map, slice_get, Some}
+use Rattle.std.specs.Prelude.{◌≡◌, ℕ, ◌<◌, ◌≤◌, List, [], All, length, slice_get, Some}
 use Rattle.machine_desc.specs.declared.machine.Machine.{Machine}
 use Rattle.stats.specs.Counted.{no_core_count}
 use Rattle.bound_core.specs.NumberedCores.{NumberedCore}
@@ -9,8 +9,7 @@ use Rattle.bound_records.specs.Recorders.{core_room}
 use Rattle.bound_records.specs.declared.record_port.CoreRecord.{CoreRecord}
 use Rattle.parts_table.specs.Access.{AreNewSeats, SeatState, TableState, opening_shards}
 use Rattle.parts_table.specs.KeptKeys.{BlocksState}
-use Rattle.bound_workers.specs.Shares.{AreEmpty}
-use Rattle.bound_workers.specs.declared.team.Team.{Team}
+use Rattle.bound_workers.specs.Team.{IsFree, Team}
 
 -- nothing is kept of a core yet, and there is room for all that it can make at the table
 pub record IsNewRecord (t : TableState) (number : ℕ) (kept : CoreRecord) : Type 0 where
@@ -43,7 +42,7 @@ pub record HaveSeats (m : Machine) (end : ℕ) (t : TableState) (cores : List Nu
 -- so many workers without cores, and what it takes to put the accesses of so many cores in order
 pub record AreToolsFor (workers cores room : ℕ) (teams : List Team) (blocks : List BlocksState) (merge : ℕ) : Type 0 where
   pub workers_are : length teams ≡ workers
-  pub empty : All (AreEmpty cores) teams
+  pub free : All (IsFree cores) teams
   pub blocks_are : length blocks ≡ cores
   pub rooms : All (λ b. b.room ≡ room) blocks
   pub merge_is : merge ≡ cores

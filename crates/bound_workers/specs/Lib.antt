@@ -6,3 +6,5 @@ pub mod Shares
 pub mod Intervals
 pub mod Orderings
 pub mod Works
+pub mod Hands
+pub mod Carrying

@@ -1,12 +1,12 @@
 -- What a worker does in an interval.
-use Rattle.std.specs.Prelude.{◌≡◌, ℕ, ◌≤◌, List, [], ◌∷◌, length, reverse, All, Option, None, Some}
-use Rattle.std.specs.Vec.{vec_capacity}
+use Rattle.std.specs.Prelude.{◌≡◌, ℕ, ◌≤◌, List, [], ◌∷◌, All, Option, None, Some}
+use Rattle.std.specs.VecDeque.{deque_capacity}
 use Rattle.zs_num.specs.declared.entry.Entry.{Entry}
 use Rattle.machine_desc.specs.declared.machine.Memory.{Memory}
 use Rattle.elf_load.specs.MemoryImage.{MemoryImage}
 use Rattle.parts_table.specs.Access.{TableState}
 use Rattle.parts_table.specs.Places.{PlacesState}
-use Rattle.bound_workers.specs.declared.team.Team.{Team}
+use Rattle.dealing.specs.declared.worker.Worker.{Worker}
 use Rattle.bound_workers.specs.declared.member.Member.{Member}
 use Rattle.bound_workers.specs.Member.{ArePlacesFor, CanRun, HasRun}
 
@@ -22,12 +22,21 @@ abbrev pub HasPlaces : (cores : ℕ) → Option PlacesState → Type 0
 HasPlaces cores None = ⊥
 HasPlaces cores (Some places) = ArePlacesFor cores places
 
-pub record CanWork (t : TableState) (memory : Memory) (end : ℕ) (team : Team) : Type 0 where
-  pub can : All (CanRun t memory end) team.todo.items
-  pub none_done : team.done.items ≡ []
-  pub room : length team.todo.items ≤ vec_capacity team.done
-  pub places : HasPlaces t.cores team.places
+-- a worker with its cores, the next one first
+abbrev pub Team : Type 0
+Team = Worker Member (Option PlacesState)
 
+-- it has no core, and room and places for so many
+pub record IsFree (cores : ℕ) (team : Team) : Type 0 where
+  pub none : team.queue.items ≡ []
+  pub room : cores ≤ deque_capacity team.queue
+  pub places : HasPlaces cores team.tools
+
+-- all its cores can run, and it has places for all of the machine
+pub record CanWork (t : TableState) (memory : Memory) (end : ℕ) (team : Team) : Type 0 where
+  pub can : All (CanRun t memory end) team.queue.items
+  pub places : HasPlaces t.cores team.tools
+
+-- all have run, and are there in the same order
 pub record HasWorked (time : Entry → ℕ) (image : MemoryImage) (end : ℕ) (t : TableState) (before after : Team) : Type 0 where
-  pub none_left : after.todo.items ≡ []
-  pub ran : HaveRun time image end t (reverse before.todo.items) after.done.items
+  pub ran : HaveRun time image end t before.queue.items after.queue.items

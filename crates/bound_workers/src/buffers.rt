@@ -1,11 +1,10 @@
 //! Memory of the workers, which one bound phase leaves to the next.
 ghost use Rattle.std.specs.Prelude.{◌≡◌, ◌<◌, ◌≤◌, All, IfOk, IsTrue, length, vec_capacity};
-ghost use Rattle.bound_workers.specs.Team.{HasPlaces};
+ghost use Rattle.bound_workers.specs.Team.{IsFree};
 ghost use Rattle.bound_workers.specs.Intervals.{AreToolsFor};
-ghost use Rattle.bound_workers.specs.Shares.{AreEmpty};
 
 use crate::hiring::teams;
-use crate::team::Team;
+use crate::team::{Team, is_free};
 use parts_table::{Blocks, Merge};
 use std::alloc::Global;
 use zs_num::NoMemory;
@@ -35,7 +34,7 @@ impl Tools {
         ensures { IsTrue result → AreToolsFor workers cores room self.now.teams.items self.now.blocks.items self.now.merge }
     {
         self.teams.len() == usize::from(workers)
-            && self.teams.iter().all(|team| team.is_empty_for(cores))
+            && self.teams.iter().all(|team| is_free(team, cores))
             && self.blocks.len() == usize::from(cores)
             && self.blocks.iter().all(|blocks| blocks.room() == room)
             && self.merge.cores() == cores

@@ -1,13 +1,16 @@
 //! Which worker runs which cores: worker w of W those whose number is w modulo W, in ascending
 //! order.
-ghost use Rattle.std.specs.Prelude.{◌≡◌, ◌<◌, ◌≤◌, ℕ, [], All, length, slice_index_or, vec_capacity, IfOk};
-ghost use Rattle.bound_workers.specs.declared.team.Team.{Team};
-ghost use Rattle.bound_workers.specs.Shares.{AreEmpty, AreReturned, HaveShares, HaveSizes, mates};
+ghost use Rattle.std.specs.Prelude.{◌≡◌, ◌<◌, ◌≤◌, [], All, length, vec_capacity, IfOk};
+ghost use Rattle.dealing.specs.Dealing.{AreDealt};
+ghost use Rattle.dealing.specs.Workers.{AreFree, queues_of, tools_of};
+ghost use Rattle.bound_workers.specs.Team.{IsFree};
+ghost use Rattle.bound_workers.specs.Shares.{AreReturned, HaveCores, mates};
 
 use crate::member::Member;
 use crate::team::Team;
 use bound_core::BoundCore;
 use bound_records::CoreRecord;
+use dealing::{Worker, give, take};
 use parts_table::{CoreSeat, Places};
 use std::alloc::Global;
 use zs_num::NoMemory;
@@ -15,15 +18,12 @@ use zs_num::NoMemory;
 /// So many workers without cores, each with room for all.
 pub(crate) fn teams(alloc: Global, workers: u16, cores: u16) -> Result<Vec<Team>, NoMemory>
     ensures count { IfOk result (λ teams. length teams.items ≡ workers) }
-    ensures empty { IfOk result (λ teams. All (AreEmpty cores) teams.items) }
+    ensures free { IfOk result (λ teams. All (IsFree cores) teams.items) }
 {
     let mut teams = Vec::with_capacity(alloc, usize::from(workers))?;
     for _ in 0..workers {
-        teams.push_reserved(Team {
-            todo: Vec::with_capacity(alloc, usize::from(cores))?,
-            done: Vec::with_capacity(alloc, usize::from(cores))?,
-            places: Some(Places::new(alloc, cores)?),
-        });
+        let places = Places::new(alloc, cores)?;
+        teams.push_reserved(Worker::with_room(alloc, usize::from(cores), Some(places))?);
     }
     Ok(teams)
 }
@@ -38,10 +38,9 @@ pub(crate) fn hire(
     requires some { 0 < length teams.old }
     requires seats { length seats.items ≡ length cores.items }
     requires records { length records.items ≡ length cores.items }
-    requires empty { All (AreEmpty (length cores.items)) teams.old }
-    ensures count { length teams.new ≡ length teams.old }
-    ensures shares { (worker : ℕ) (d : Team) → worker < length teams.old
-        → HaveShares (length teams.old) worker (mates cores.items seats.items records.items) (slice_index_or teams.new worker d) }
+    requires free { AreFree (length cores.items) teams.old }
+    ensures places { tools_of teams.new ≡ tools_of teams.old }
+    ensures dealt { AreDealt 0 (mates cores.items seats.items records.items) (queues_of teams.new) }
 {
     while let Some(core) = cores.pop() {
         let Some(seat) = seats.pop() else {
@@ -50,10 +49,7 @@ pub(crate) fn hire(
         let Some(record) = records.pop() else {
             unreachable!()
         };
-        let worker = usize::from(seat.core()) % teams.len();
-        teams[worker]
-            .todo
-            .push_reserved(Member { core, seat, record });
+        give(teams, cores.len(), Member { core, seat, record });
     }
 }
 
@@ -65,26 +61,16 @@ pub(crate) fn let_go(
     seats: &mut Vec<CoreSeat>,
     records: &mut Vec<CoreRecord>,
 )
-    requires some { 0 < length teams.old }
-    requires sizes { HaveSizes count teams.old }
+    requires dealt { HaveCores count teams.old }
     requires cores { (cores.old.items ≡ []) × (count ≤ vec_capacity cores.old) }
     requires seats { (seats.old.items ≡ []) × (count ≤ vec_capacity seats.old) }
     requires records { (records.old.items ≡ []) × (count ≤ vec_capacity records.old) }
     ensures { AreReturned count teams.old cores.new.items seats.new.items records.new.items }
 {
-    let mut left = usize::from(count);
-    while left > 0 {
-        left -= 1;
-        let worker = left % teams.len();
-        let Some(member) = teams[worker].done.pop() else {
-            unreachable!()
-        };
-        let Member { core, seat, record } = member;
+    for number in 0..usize::from(count) {
+        let Member { core, seat, record } = take(teams, number);
         cores.push_reserved(core);
         seats.push_reserved(seat);
         records.push_reserved(record);
     }
-    cores.reverse();
-    seats.reverse();
-    records.reverse();
 }

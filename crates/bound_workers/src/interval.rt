@@ -13,10 +13,12 @@ ghost use Rattle.bound_records.specs.Intervals.{AreKept, CanAllRun, HaveRun};
 ghost use Rattle.bound_records.specs.Recorders.{IsRecorderFor, core_room};
 ghost use Rattle.parts_table.specs.TurnOrder.{AreTurnsOf};
 ghost use Rattle.bound_workers.specs.Intervals.{HaveSeats};
-ghost use Rattle.bound_workers.specs.Shares.{AreEmpty, HaveReturned, mates};
+ghost use Rattle.bound_workers.specs.Team.{IsFree};
+ghost use Rattle.bound_workers.specs.Shares.{HaveReturned, mates};
 
 use crate::buffers::{Tools, WorkBuffers};
 use crate::hiring::{hire, let_go};
+use crate::member::Member;
 use crate::team::Team;
 use crate::work::Work;
 use crate::working::work_all;
@@ -25,7 +27,7 @@ use bound_records::{CoreRecord, Recorder, RecorderParts};
 use crew::{Asker, Post};
 use machine_desc::Machine;
 use noc_mesh::Net;
-use parts_table::{Blocks, CoreSeat, Merge, PartsTable};
+use parts_table::{Blocks, CoreSeat, Merge, PartsTable, Places};
 use rv_blocks::DecodedProgram;
 use std::alloc::Global;
 use std::sync::{Arc, Wait};
@@ -200,7 +202,7 @@ fn run_teams<'a, R: Wait + Sync, G: Gate>(
     requires machine { IsMachine machine.now }
     requires end { end ≤ 10 * 2 ^ 30 }
     requires hired { HaveSeats machine.now end (arc_value table.now) cores.items seats.items records.items }
-    requires teams { (0 < vec_len teams.old) × (vec_len teams.old ≤ 64) × All (AreEmpty machine.now.cores) teams.old.items }
+    requires teams { (0 < vec_len teams.old) × (vec_len teams.old ≤ 64) × All (IsFree machine.now.cores) teams.old.items }
     requires posts { vec_len teams.old ≤ length posts.now + 1 }
     requires askers { askers.old ≡ free_seats posts.now }
     requires back { (back.old.cores.items ≡ []) × (machine.now.cores ≤ vec_capacity back.old.cores) }
@@ -209,6 +211,8 @@ fn run_teams<'a, R: Wait + Sync, G: Gate>(
     ensures returned { OnOk result (HaveReturned (λ e. net_time net.now.path e) program.now end (arc_value table.now) (mates cores.items seats.items records.items) back.new.cores.items back.new.seats.items back.new.records.items) }
     ensures askers { askers.new ≡ askers.old }
 {
+    dealing::laws::dealt_are_among_these::<Member, Option<Places>>();
+    dealing::laws::changed_are_dealt::<Member, Option<Places>>();
     hire(cores, seats, records, teams.as_mut_slice());
     work_all(
         rt,

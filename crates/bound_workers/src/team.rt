@@ -1,11 +1,11 @@
-//! The cores of a worker.
+//! A worker with its cores.
 ghost use Rattle.std.specs.Prelude.{IsTrue};
 ghost use Rattle.noc_mesh.specs.NetTiming.{net_time};
-ghost use Rattle.bound_workers.specs.Team.{CanWork, HasPlaces, HasWorked};
-ghost use Rattle.bound_workers.specs.Shares.{AreEmpty};
+ghost use Rattle.bound_workers.specs.Team.{CanWork, HasPlaces, HasWorked, IsFree};
 
 use crate::member::{Member, run};
 use crate::way::Way;
+use dealing::Worker;
 use machine_desc::Memory;
 use noc_mesh::Net;
 use parts_table::{PartsTable, Places};
@@ -13,27 +13,15 @@ use rv_blocks::DecodedProgram;
 use std::sync::Wait;
 use zs_num::Cycle;
 
-/// The cores of a worker: those that have still to run, the next one last, and those that ran.
-#[derive(Drop)]
-pub(crate) struct Team {
-    pub todo: Vec<Member>,
-    pub done: Vec<Member>,
-    /// Places for the L1s of all cores, which go from core to core.
-    pub places: Option<Places>,
-}
+/// A worker with its cores, and places for the L1s of all cores, which go from core to core.
+pub(crate) type Team = Worker<Member, Option<Places>>;
 
-impl Team {
-    /// Whether it has no cores, and room for so many.
-    pub(crate) fn is_empty_for(&self, cores: u16) -> bool
-        ensures { IsTrue result → AreEmpty cores self.now }
-    {
-        let room = usize::from(cores);
-        self.todo.is_empty()
-            && self.done.is_empty()
-            && self.todo.capacity() >= room
-            && self.done.capacity() >= room
-            && has_places(&self.places, room)
-    }
+/// Whether it has no cores, and room and places for so many.
+pub(crate) fn is_free(team: &Team, cores: u16) -> bool
+    ensures { IsTrue result → IsFree cores team.now }
+{
+    let room = usize::from(cores);
+    team.queue.is_empty() && team.queue.capacity() >= room && has_places(&team.tools, room)
 }
 
 /// Whether there are places for so many cores, of which none is filled.
@@ -46,7 +34,8 @@ fn has_places(places: &Option<Places>, cores: usize) -> bool
     }
 }
 
-/// Runs the cores of a worker to the end of the interval, one after the other.
+/// Runs the cores of a worker to the end of the interval, one after the other: the first of its queue
+/// comes behind all others as it has run.
 pub(crate) fn work<R: Wait, W: Way>(
     rt: &R,
     gate: &W,
@@ -61,15 +50,18 @@ pub(crate) fn work<R: Wait, W: Way>(
     requires { CanWork table.now memory.now end team.old }
     ensures { HasWorked (λ e. net_time net.now.path e) program.now end table.now team.old team.new }
 {
-    let Some(mut places) = team.places.take() else {
+    let Some(mut places) = team.tools.take() else {
         return;
     };
-    while let Some(member) = team.todo.pop() {
+    for _ in 0..team.queue.len() {
+        let Some(member) = team.queue.pop_front() else {
+            unreachable!()
+        };
         let (member, back) = run(
             rt, gate, table, program, net, memory, end, worker, member, places,
         );
         places = back;
-        team.done.push_reserved(member);
+        team.queue.push_back_reserved(member);
     }
-    team.places = Some(places);
+    team.tools = Some(places);
 }

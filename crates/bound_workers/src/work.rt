@@ -1,20 +1,27 @@
 //! What a worker is asked for.
+ghost use Rattle.std.specs.Prelude.{◌≡◌};
 
+use crate::carries::Carries;
 use crate::ordering::Ordering;
 use crate::share::Share;
 use crate::team::work;
 use crate::way::Watched;
+use component::Comp;
 use crew::Job;
 use std::sync::Wait;
+use weave_run::{DomainShare, WatchedDomains};
 use zs_host::Gate;
 
-/// What a worker is asked for: its share of an interval, or the recorded order of one.
+/// What a worker is asked for: its share of an interval, the recorded order of one, or its domains
+/// in a round of the weave.
 #[derive(Drop)]
 pub enum Work<'a, R: Wait + Sync, G: Gate> {
     /// To run its cores.
     Cores(Share<'a, R, G>),
     /// To tell in which order the accesses of an interval are recorded.
     Order(Ordering),
+    /// To run its domains.
+    Domains(DomainShare<Comp, WatchedDomains<'a, G>>),
 }
 
 impl<'a, R: Wait + Sync, G: Gate> Job for Work<'a, R, G> {
@@ -55,6 +62,26 @@ impl<'a, R: Wait + Sync, G: Gate> Job for Work<'a, R, G> {
                 })
             }
             Work::Order(order) => Work::Order(order.tell()),
+            Work::Domains(share) => Work::Domains(share.work()),
+        }
+    }
+}
+
+impl<'a, R: Wait + Sync, G: Gate> Carries<WatchedDomains<'a, G>> for Work<'a, R, G> {
+    ghost use Rattle.bound_workers.specs.declared.work.Work.TheVariants.{Domains};
+
+    ghost of = { λ share. Domains share };
+
+    fn with(share: DomainShare<Comp, WatchedDomains<'a, G>>) -> Self
+        ensures { result ≡ Domains share.entry }
+    {
+        Work::Domains(share)
+    }
+
+    fn take(self) -> DomainShare<Comp, WatchedDomains<'a, G>> {
+        match self {
+            Work::Domains(share) => share,
+            Work::Cores(_) | Work::Order(_) => unreachable!(),
         }
     }
 }

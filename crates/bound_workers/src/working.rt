@@ -4,9 +4,8 @@ ghost use Rattle.std.specs.Arc.{arc_value};
 ghost use Rattle.noc_mesh.specs.NetTiming.{net_time};
 ghost use Rattle.crew.specs.Crews.{free_seats};
 ghost use Rattle.crew.specs.Sharing.{AreDone};
-ghost use Rattle.bound_workers.specs.Team.{CanWork, HasWorked};
+ghost use Rattle.bound_workers.specs.Team.{CanWork, HasWorked, Team};
 ghost use Rattle.bound_workers.specs.Works.{AreCores, CanShare, HasShared};
-ghost use Rattle.bound_workers.specs.declared.team.Team.{Team};
 ghost use Rattle.bound_workers.specs.declared.work.Work.TheVariants.{Cores};
 
 use crate::share::Share;

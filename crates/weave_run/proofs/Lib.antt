@@ -8,10 +8,13 @@ mod Rounding
 mod Gatherings
 mod Fillings
 mod Preparings
-mod Sending
+pub mod Sending
 mod Lots
+mod Working
 mod Seatings
 mod Postings
 mod Raises
+mod AtWork
 mod BesideRounds
 mod Wovens
+mod Returns

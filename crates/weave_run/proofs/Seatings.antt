@@ -1,9 +1,9 @@
 -- Domains and their seats, which go together.
-use Rattle.std.proofs.Common.{◌≡◌, ◌%◌, ◌<◌, ℕ, zero, suc, Bool, true, false, List, [], ◌∷◌, ◌++◌, All, length, map, set, get_or, slice_index, Option, Some, None, slice_get, sym, ◌∙◌, ap, subst, refl, inl, inr, arith}
-use Rattle.std.proofs.lemmas.Bool.{false≢true, cases_eq}
-use Rattle.std.proofs.lemmas.List.{length-map, length_push}
-use Rattle.std.proofs.lemmas.Option.{same_Some, none-some, slice_get-get_or, slice_get-map, slice_get_within}
-use Rattle.std.specs.Option.{option_map}
+use Rattle.std.proofs.Common.{◌≡◌, ◌%◌, ℕ, zero, suc, Bool, true, false, List, [], ◌∷◌, All, length, map, get_or, slice_index, Option, Some, None, slice_get, sym, ◌∙◌, ap, subst, refl, arith}
+use Rattle.std.proofs.lemmas.Bool.{false≢true}
+use Rattle.std.proofs.lemmas.List.{length-map}
+use Rattle.std.proofs.lemmas.Option.{same_Some, none-some, slice_get-get_or, slice_get_within}
+use Rattle.std.specs.Arc.{arc_value}
 use Rattle.std.specs.Prelude.{IfSome}
 use Rattle.atomic_table.specs.Seated.{TableId}
 use Rattle.component.specs.declared.kind.Kind.{Kind}
@@ -12,19 +12,14 @@ use Rattle.crossing.specs.Seats.{AreSeats, SeatValue, finishes_of, new_seat, sou
 use Rattle.weave_core.specs.DomainCalls.{DomainValue}
 use Rattle.weave_core.specs.DomainMachine.{DomainState}
 use Rattle.weave_core.specs.Keeping.{IsKept}
-use Rattle.weave_run.specs.Crews.{AreCrewsSeated, AreFree, IsCrewSeated, domains_of_crew}
 use Rattle.weave_run.specs.Rounds.{AllGrow, AllKeep, Grows, own_in, with_floors}
 use Rattle.weave_run.specs.Seating.{AreSeated, IsSeated}
 use Rattle.weave_run.specs.Setup.{AreBegun}
 use Rattle.weave_run.specs.Teams.{IsNewTeam, IsTeam}
-use Rattle.weave_run.specs.declared.crew.Crew.{Crew}
-use Rattle.weave_run.specs.declared.post.Post.{Post}
 use Rattle.weave_run.specs.declared.plan.Plan.{Plan}
 use Rattle.weave_run.specs.declared.team.Team.{Team}
-use Rattle.weave_run.proofs.Lots.{earlier_at, last_at}
-use Rattle.weave_run.proofs.Preparings.{snoc_get}
 use Rattle.weave_run.proofs.Rounding.{floored, still_fired}
-use Rattle.weave_run.proofs.Tellings.{get_set_other, get_set_same, own_there, stays_exact, there_at}
+use Rattle.weave_run.proofs.Tellings.{own_there, stays_exact, there_at}
 
 zeros : (xs : List ℕ) (n : ℕ) → slice_index (map (λ (x : ℕ). 0) xs) n ≡ 0
 zeros [] zero = refl
@@ -33,89 +28,6 @@ zeros (x ∷ xs) zero = refl
 zeros (x ∷ xs) (suc n) = zeros xs n
 
 module _ {C : Type 0} (stepped : C → Kind → ℕ → C × ℕ) (plan : Plan C) (table : TableId) where
-  -- ---- lists of domains and seats
-
-  pub seated_front : (vs : List (DomainValue C)) (v : DomainValue C) (seats : List SeatValue) (s : SeatValue) → AreSeated stepped plan table (vs ++ v ∷ []) (seats ++ s ∷ []) → AreSeated stepped plan table vs seats
-  seated_front vs v seats s h = record {
-    count = (let a = h.count in let b = length_push vs v in let c = length_push seats s in omega (arith, a, b, c));
-    each = λ d w t at there. h.each d w t (earlier_at vs (v ∷ []) d w at) (earlier_at seats (s ∷ []) d t there);
-  }
-
-  pub seated_last : (vs : List (DomainValue C)) (v : DomainValue C) (seats : List SeatValue) (s : SeatValue) → AreSeated stepped plan table (vs ++ v ∷ []) (seats ++ s ∷ []) → IsSeated stepped plan table v s
-  seated_last vs v seats s h =
-      h.each (length vs) v s (last_at vs v (length vs) refl) (last_at seats s (length vs) (let a = h.count in let b = length_push vs v in let c = length_push seats s in omega (arith, a, b, c)))
-
-  pub seated_push : (vs : List (DomainValue C)) (v : DomainValue C) (seats : List SeatValue) (s : SeatValue) → AreSeated stepped plan table vs seats → IsSeated stepped plan table v s → AreSeated stepped plan table (vs ++ v ∷ []) (seats ++ s ∷ [])
-  seated_push vs v seats s h i = record {
-    count = (let a = h.count in let b = length_push vs v in let c = length_push seats s in omega (arith, a, b, c));
-    each = λ d w t at there.
-        elim (snoc_get vs v d w at) [
-          | inl before ↦
-              elim (snoc_get seats s d t there) [
-                | inl too ↦ h.each d w t before too
-                | inr last ↦ absurd (let a = h.count in let b = slice_get_within vs d w before in let e = last.0 in omega (arith, a, b, e))
-              ]
-          | inr last ↦
-              elim (snoc_get seats s d t there) [
-                | inl before ↦ absurd (let a = h.count in let b = slice_get_within seats d t before in let e = last.0 in omega (arith, a, b, e))
-                | inr too ↦ subst (λ (x : DomainValue C). IsSeated stepped plan table x t) last.1 (subst (IsSeated stepped plan table v) too.1 i)
-              ]
-        ];
-  }
-
-  pub none_seated : (vs : List (DomainValue C)) (seats : List SeatValue) → vs ≡ [] → seats ≡ [] → AreSeated stepped plan table vs seats
-  none_seated vs seats a b = record {
-    count = ap length b ∙ sym (ap length a);
-    each = λ d v s at there. absurd (none-some v (ap (λ (xs : List (DomainValue C)). slice_get xs d) (sym a) ∙ at));
-  }
-
-  -- ---- workers
-
-  set_seated : (crews : List (Crew C)) (worker : ℕ) (new : Crew C) → worker < length crews → AreCrewsSeated stepped plan table crews → IsCrewSeated stepped plan table new → AreCrewsSeated stepped plan table (set crews worker new)
-  set_seated crews worker new below h i = record {
-    each = λ w crew at.
-        elim (cases_eq w worker) [
-          | inr other ↦ h.each w crew (sym (get_set_other crews worker w new other) ∙ at)
-          | inl same ↦
-              let one : new ≡ crew = same_Some new crew (sym (get_set_same crews worker new below) ∙ (ap (slice_get (set crews worker new)) (sym same) ∙ at)) in
-              subst (IsCrewSeated stepped plan table) one i
-        ];
-  }
-
-  pub crews_after_push : (crews : List (Crew C)) (worker : ℕ) (old new : Crew C) (post : Post C) → AreCrewsSeated stepped plan table crews → slice_get crews worker ≡ Some old → new.posts.items ≡ old.posts.items ++ post ∷ []
-      → IsSeated stepped plan table post.domain post.seat → AreCrewsSeated stepped plan table (set crews worker new)
-  crews_after_push crews worker old new post h there is i =
-      set_seated crews worker new (slice_get_within crews worker old there) h
-      (record {
-        each = λ place p at.
-            elim (snoc_get old.posts.items post place p (ap (λ (xs : List (Post C)). slice_get xs place) (sym is) ∙ at)) [
-              | inl before ↦ (h.each worker old there).each place p before
-              | inr last ↦ subst (λ (q : Post C). IsSeated stepped plan table q.domain q.seat) last.1 i
-            ];
-      })
-
-  pub crews_after_pop : (crews : List (Crew C)) (worker : ℕ) (old new : Crew C) (post : Post C) → AreCrewsSeated stepped plan table crews → slice_get crews worker ≡ Some old → old.posts.items ≡ new.posts.items ++ post ∷ []
-      → AreCrewsSeated stepped plan table (set crews worker new)
-  crews_after_pop crews worker old new post h there is =
-      set_seated crews worker new (slice_get_within crews worker old there) h
-      (record {
-        each = λ place p at. (h.each worker old there).each place p (ap (λ (xs : List (Post C)). slice_get xs place) is ∙ earlier_at new.posts.items (post ∷ []) place p at);
-      })
-
-  pub popped_seat : (crews : List (Crew C)) (worker : ℕ) (old new : Crew C) (post : Post C) → AreCrewsSeated stepped plan table crews → slice_get crews worker ≡ Some old → old.posts.items ≡ new.posts.items ++ post ∷ []
-      → IsSeated stepped plan table post.domain post.seat
-  popped_seat crews worker old new post h there is =
-      (h.each worker old there).each (length new.posts.items) post (ap (λ (xs : List (Post C)). slice_get xs (length new.posts.items)) is ∙ last_at new.posts.items post (length new.posts.items) refl)
-
-  pub free_seated : (count : ℕ) (crews : List (Crew C)) → AreFree count crews → AreCrewsSeated stepped plan table crews
-  free_seated count crews free = record {
-    each = λ worker crew there. record {
-      each = λ place post at.
-          let here : slice_get (domains_of_crew crew) place ≡ Some post.domain = slice_get-map (λ (p : Post C). p.domain) crew.posts.items place ∙ ap (option_map (λ (p : Post C). p.domain)) at in
-          absurd (none-some post.domain (ap (λ (xs : List (DomainValue C)). slice_get xs place) (sym (free.none worker crew there)) ∙ here));
-    };
-  }
-
   -- ---- from round to round
 
   seated_on : (old new : List (DomainValue C)) (seats : List SeatValue) → AreSeated stepped plan table old seats → length new ≡ length old
@@ -194,22 +106,22 @@ module _ {C : Type 0} (stepped : C → Kind → ℕ → C × ℕ) (plan : Plan C
 
 -- ---- teams
 
-module _ {C : Type 0} (stepped : C → Kind → ℕ → C × ℕ) (plan : Plan C) where
-  pub team_after : (old new : List (DomainValue C)) (team : Option (Team C)) → AllKeep stepped plan old → AllKeep stepped plan new → AllGrow old new → IfSome team (IsTeam stepped plan old) → IfSome team (IsTeam stepped plan new)
+module _ {C W : Type 0} (stepped : C → Kind → ℕ → C × ℕ) (plan : Plan C) where
+  pub team_after : (old new : List (DomainValue C)) (team : Option (Team C W)) → AllKeep stepped plan old → AllKeep stepped plan new → AllGrow old new → IfSome team (IsTeam stepped plan old) → IfSome team (IsTeam stepped plan new)
   team_after old new None k m grow h = tt
-  team_after old new (Some t) k m grow h = record { has = h.has; seated = seated_grown stepped plan t.crossings old new t.seats.items k m grow h.seated }
+  team_after old new (Some t) k m grow h = record { has = h.has; seated = seated_grown stepped plan (arc_value t.crossings) old new t.seats.items k m grow h.seated }
 
-  pub team_higher : (floor : ℕ) (vs : List (DomainValue C)) (team : Option (Team C)) → IfSome team (IsTeam stepped plan vs) → IfSome team (IsTeam stepped plan (with_floors floor vs))
+  pub team_higher : (floor : ℕ) (vs : List (DomainValue C)) (team : Option (Team C W)) → IfSome team (IsTeam stepped plan vs) → IfSome team (IsTeam stepped plan (with_floors floor vs))
   team_higher floor vs None h = tt
-  team_higher floor vs (Some t) h = record { has = h.has; seated = seated_higher stepped plan t.crossings floor vs t.seats.items h.seated }
+  team_higher floor vs (Some t) h = record { has = h.has; seated = seated_higher stepped plan (arc_value t.crossings) floor vs t.seats.items h.seated }
 
-  pub first_team : (vs : List (DomainValue C)) (team : Option (Team C)) → AreBegun plan.graph.value plan.parts.value plan.comps.value (length plan.parts.value.events) vs → IfSome team (IsNewTeam stepped plan)
+  pub first_team : (vs : List (DomainValue C)) (team : Option (Team C W)) → AreBegun plan.graph.value plan.parts.value plan.comps.value (length plan.parts.value.events) vs → IfSome team (IsNewTeam stepped plan)
       → IfSome team (IsTeam stepped plan vs)
   first_team vs None begun h = tt
-  first_team vs (Some t) begun h = record { has = h.has; seated = seated_first stepped plan t.crossings vs t.seats.items begun h.seats }
+  first_team vs (Some t) begun h = record { has = h.has; seated = seated_first stepped plan (arc_value t.crossings) vs t.seats.items begun h.seats }
 
-  pub seats_of_team : (vs : List (DomainValue C)) (team : Option (Team C)) (t : Team C) → IfSome team (IsTeam stepped plan vs) → team ≡ Some t → All (λ (s : SeatValue). s.crossings ≡ t.crossings) t.seats.items
+  pub seats_of_team : (vs : List (DomainValue C)) (team : Option (Team C W)) (t : Team C W) → IfSome team (IsTeam stepped plan vs) → team ≡ Some t → All (λ (s : SeatValue). s.crossings ≡ (arc_value t.crossings)) t.seats.items
   seats_of_team vs None t h e = absurd (none-some t e)
   seats_of_team vs (Some u) t h e =
       let here : IsTeam stepped plan vs t = subst (IsTeam stepped plan vs) (same_Some u t e) h in
-      all_of_table stepped plan t.crossings vs t.seats.items here.seated
+      all_of_table stepped plan (arc_value t.crossings) vs t.seats.items here.seated

@@ -5,5 +5,6 @@ pub mod Outgoing
 pub mod Rounds
 pub mod Seating
 pub mod Setup
+pub mod Shares
 pub mod Teams
 pub mod Weaving

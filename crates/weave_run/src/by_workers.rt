@@ -7,16 +7,15 @@ ghost use Rattle.weave_run.specs.Rounds.{AllKeep, CanWeavePlan};
 ghost use Rattle.weave_run.specs.Setup.{IsPrepared};
 ghost use Rattle.weave_run.specs.Weaving.{IsWoven};
 
-use crate::dealt::gather;
-use crate::ended::{fill_all, finish_all};
+use crate::ending::end;
 use crate::plan::Plan;
 use crate::rounds::run_rounds;
 use crate::setup::{Prepared, prepare};
+use crate::way::WatchedDomains;
 use component::{Component, Comps};
 use domain_map::Parts;
 use event_graph::{FiredList, Graph};
 use std::alloc::Global;
-use std::snapshot::Snapshot;
 use std::thread::Threads;
 use weave_core::laws;
 use zs_host::Gate;
@@ -55,18 +54,15 @@ pub fn weave<R: Threads + Sync, C: Component + Send, G: Gate>(
     if !has_numbers(graph, parts) {
         return Err((NoMemory, comps));
     }
-    let plan = Plan {
-        graph: Snapshot::of(graph),
-        parts: Snapshot::of(parts),
-        comps: Snapshot::of(&comps),
-    };
-    let prepared = prepare(alloc, graph, parts, &plan, comps, workers)?;
+    let plan = Plan::of(graph, parts, &comps);
+    let way = WatchedDomains::of(gate);
+    let prepared = prepare(alloc, graph, parts, &plan, comps, workers, &way)?;
     let events = graph.events().len() as u32;
-    Ok(run(rt, prepared, &plan, parts, workers, gate, events))
+    Ok(run(rt, prepared, &plan, parts, workers, &way, events))
 }
 
 /// Whether a domain has numbers for all events, crossings and components.
-fn has_numbers(graph: &Graph, parts: &Parts) -> bool
+pub(crate) fn has_numbers(graph: &Graph, parts: &Parts) -> bool
     ensures events { IsTrue result → length graph.now < 2 ^ 30 }
     ensures crossings { IsTrue result → length parts.now.crossings < 2 ^ 31 }
     ensures places { IsTrue result → length parts.now.places < 2 ^ 16 }
@@ -79,11 +75,11 @@ fn has_numbers(graph: &Graph, parts: &Parts) -> bool
 /// Runs all rounds, and takes the times and the components.
 fn run<R: Threads + Sync, C: Component + Send, G: Gate>(
     rt: &R,
-    prepared: Prepared<C>,
+    prepared: Prepared<C, WatchedDomains<'_, G>>,
     plan: &Plan<C>,
     parts: &Parts,
     workers: u16,
-    gate: &G,
+    way: &WatchedDomains<'_, G>,
     events: u32,
 ) -> Woven<C>
     requires can { CanWeavePlan C.serves C.floor C.stepped C.greatest plan.now }
@@ -94,11 +90,10 @@ fn run<R: Threads + Sync, C: Component + Send, G: Gate>(
     ensures { IsWoven C.stepped plan.now.graph.value plan.now.comps.value result.fired result.comps result.rounds }
 {
     laws::domains_keep_to_the_weave::<C>();
-    event_graph::laws::components_serve_their_own_events::<C>();
     let Prepared {
         mut domains,
         outgoing,
-        mut times,
+        times,
         list,
         lists,
         mut team,
@@ -110,19 +105,17 @@ fn run<R: Threads + Sync, C: Component + Send, G: Gate>(
         plan,
         parts,
         &outgoing,
-        gate,
+        way,
         workers,
         events,
     );
-    if let Some(team) = team {
-        team.close();
-    }
-    fill_all(times.as_mut_slice(), &domains, plan);
-    let mut lists = finish_all(domains, lists);
-    let comps = gather(list, parts.places(), lists.as_mut_slice());
-    Woven {
-        fired: FiredList::of(times),
-        comps,
-        rounds,
-    }
+    let left = Prepared {
+        domains,
+        outgoing,
+        times,
+        list,
+        lists,
+        team,
+    };
+    end(left, plan, parts, rounds)
 }

@@ -11,11 +11,11 @@ use crate::outgoing::Outgoing;
 use crate::plan::Plan;
 use crate::raise::raise_all;
 use crate::run::fire;
+use crate::way::DomainWay;
 use component::Component;
 use crossing::{Crossings, DomainSeat};
 use event_graph::Fired;
 use weave_core::{Domain, Next, laws};
-use zs_host::Gate;
 use zs_num::{Cycle, Word};
 
 /// A domain with its number and its seat at the crossings.
@@ -29,13 +29,13 @@ pub(crate) struct Post<C: Component> {
 /// Fires while the next event may fire, and publishes each finish. Where the domain is blocked it
 /// raises the words of its crossings, looks at the word of the crossing that blocks it, and goes on
 /// if that says more than what the domain knows. At most so many fires and looks.
-pub(crate) fn run_beside_others<C: Component, G: Gate>(
+pub(crate) fn run_beside_others<C: Component, W: DomainWay>(
     post: &mut Post<C>,
     plan: &Plan<C>,
     outgoing: &Outgoing,
     crossings: &Crossings,
     worker: u16,
-    gate: &G,
+    way: &W,
     steps: usize,
 )
     requires can { CanWeavePlan C.serves C.floor C.stepped C.greatest plan.now }
@@ -49,7 +49,7 @@ pub(crate) fn run_beside_others<C: Component, G: Gate>(
     for _step in 0..steps {
         match post.domain.next() {
             Next::Fire { .. } => {
-                fire_and_publish(post, plan, outgoing, crossings, worker, gate);
+                fire_and_publish(post, plan, outgoing, crossings, worker, way);
                 raises = true;
             }
             Next::Blocked { crossing, bound } => {
@@ -64,13 +64,13 @@ pub(crate) fn run_beside_others<C: Component, G: Gate>(
 }
 
 /// Fires the domain's next event once the gate lets it, and publishes its finish.
-fn fire_and_publish<C: Component, G: Gate>(
+fn fire_and_publish<C: Component, W: DomainWay>(
     post: &mut Post<C>,
     plan: &Plan<C>,
     outgoing: &Outgoing,
     crossings: &Crossings,
     worker: u16,
-    gate: &G,
+    way: &W,
 )
     requires can { CanWeavePlan C.serves C.floor C.stepped C.greatest plan.now }
     requires outgoing { AreOutgoing plan.now.parts.value.crossings (length plan.now.graph.value) outgoing.now }
@@ -79,7 +79,7 @@ fn fire_and_publish<C: Component, G: Gate>(
     ensures { HasFiredThere C.stepped plan.now crossings.now post.old post.new }
 {
     laws::domains_keep_to_the_weave::<C>();
-    let fired = fire(&mut post.domain, plan, post.number, worker, gate);
+    let fired = fire(&mut post.domain, plan, post.number, worker, way);
     publish_all(crossings, &mut post.seat, plan, outgoing, fired);
 }
 

@@ -9,10 +9,11 @@ ghost use Rattle.weave_run.specs.Teams.{IsTeam};
 
 use crate::beside::run_beside;
 use crate::outgoing::Outgoing;
-use crate::plan::Plan;
+use crate::plan::{Plan, steps_for};
 use crate::run::run_alone;
 use crate::team::Team;
 use crate::tell::{tell_bounds, tell_from};
+use crate::way::{DomainWay, WatchedDomains};
 use component::Component;
 use domain_map::Parts;
 use std::thread::Threads;
@@ -29,11 +30,11 @@ const WORTH_OF_THREADS: usize = 256;
 pub(crate) fn run_rounds<R: Threads + Sync, C: Component + Send, G: Gate>(
     rt: &R,
     domains: &mut Vec<Domain<C>>,
-    team: &mut Option<Team<C>>,
+    team: &mut Option<Team<C, WatchedDomains<'_, G>>>,
     plan: &Plan<C>,
     parts: &Parts,
     outgoing: &Outgoing,
-    gate: &G,
+    way: &WatchedDomains<'_, G>,
     workers: u16,
     events: u32,
 ) -> u32
@@ -51,9 +52,7 @@ pub(crate) fn run_rounds<R: Threads + Sync, C: Component + Send, G: Gate>(
     ensures team { IfSome team.new (IsTeam C.stepped plan.now domains.new.items) }
 {
     laws::domains_keep_to_the_weave::<C>();
-    // A fire for each event, looks by which it learns of its parents, and the step that ends the
-    // round. A domain that looks more often waits for the next round.
-    let steps = 3 * events as usize + 1;
+    let steps = steps_for(events);
     let mut floor = 0;
     let mut fired = 0;
     let mut threads_are_worth = true;
@@ -70,7 +69,7 @@ pub(crate) fn run_rounds<R: Threads + Sync, C: Component + Send, G: Gate>(
             plan,
             parts,
             outgoing,
-            gate,
+            way,
             workers,
             steps,
             threads_are_worth,
@@ -83,7 +82,7 @@ pub(crate) fn run_rounds<R: Threads + Sync, C: Component + Send, G: Gate>(
 }
 
 /// How many events the domains have fired.
-fn fired_so_far<C: Component>(domains: &[Domain<C>]) -> usize {
+pub(crate) fn fired_so_far<C: Component>(domains: &[Domain<C>]) -> usize {
     let mut count = 0usize;
     for domain in domains {
         count = count.saturating_add(domain.fired().len());
@@ -96,11 +95,11 @@ fn fired_so_far<C: Component>(domains: &[Domain<C>]) -> usize {
 fn run_round<R: Threads + Sync, C: Component + Send, G: Gate>(
     rt: &R,
     domains: &mut Vec<Domain<C>>,
-    team: &mut Option<Team<C>>,
+    team: &mut Option<Team<C, WatchedDomains<'_, G>>>,
     plan: &Plan<C>,
     parts: &Parts,
     outgoing: &Outgoing,
-    gate: &G,
+    way: &WatchedDomains<'_, G>,
     workers: u16,
     steps: usize,
     threads_are_worth: bool,
@@ -118,7 +117,7 @@ fn run_round<R: Threads + Sync, C: Component + Send, G: Gate>(
     let beside = threads_are_worth && are_several_ready(domains);
     if let Some(team) = team {
         if beside {
-            run_beside(rt, domains, team, plan, parts, outgoing, gate, steps);
+            run_beside(rt, domains, team, plan, parts, outgoing);
             return;
         }
     }
@@ -127,14 +126,14 @@ fn run_round<R: Threads + Sync, C: Component + Send, G: Gate>(
         plan,
         parts,
         outgoing,
-        gate,
+        way,
         workers,
         steps,
     );
 }
 
 /// Whether more than one domain has an event ready.
-fn are_several_ready<C: Component>(domains: &[Domain<C>]) -> bool
+pub(crate) fn are_several_ready<C: Component>(domains: &[Domain<C>]) -> bool
     ensures { result ≡ nat_lt 1 (count_by has_event domains.now) }
 {
     let mut ready = 0usize;
@@ -147,7 +146,7 @@ fn are_several_ready<C: Component>(domains: &[Domain<C>]) -> bool
 }
 
 /// The least start of a ready event. None where no event is ready.
-fn front_of<C: Component>(domains: &[Domain<C>], plan: &Plan<C>) -> Option<Cycle>
+pub(crate) fn front_of<C: Component>(domains: &[Domain<C>], plan: &Plan<C>) -> Option<Cycle>
     requires can { CanWeavePlan C.serves C.floor C.stepped C.greatest plan.now }
     requires kept { AllKeep C.stepped plan.now domains.now }
     ensures front { IsLeastStart plan.now domains.now result }
@@ -174,7 +173,7 @@ fn earlier(front: Option<Cycle>, start: Cycle) -> Cycle
 }
 
 /// Tells all domains that no event starts before this cycle.
-fn raise_floors<C: Component>(domains: &mut Vec<Domain<C>>, floor: Cycle)
+pub(crate) fn raise_floors<C: Component>(domains: &mut Vec<Domain<C>>, floor: Cycle)
     requires rises { (domain : _) (v : DomainValue C) → slice_get domains.old.items domain ≡ Some v → v.own.floor ≤ floor }
     requires small { floor ≤ 2 ^ 62 }
     ensures { domains.new.items ≡ with_floors floor domains.old.items }
@@ -186,12 +185,12 @@ fn raise_floors<C: Component>(domains: &mut Vec<Domain<C>>, floor: Cycle)
 
 /// Runs all domains in this thread, one after the other. Each then tells the others what it fired,
 /// and what it can say of what it will fire.
-fn run_here<C: Component, G: Gate>(
+pub(crate) fn run_here<C: Component, W: DomainWay>(
     domains: &mut [Domain<C>],
     plan: &Plan<C>,
     parts: &Parts,
     outgoing: &Outgoing,
-    gate: &G,
+    way: &W,
     workers: u16,
     steps: usize,
 )
@@ -206,17 +205,17 @@ fn run_here<C: Component, G: Gate>(
     laws::domains_keep_to_the_weave::<C>();
     for number in 0..parts.domains() {
         let worker = number % workers;
-        run_domain(domains, plan, parts, outgoing, gate, number, worker, steps);
+        run_domain(domains, plan, parts, outgoing, way, number, worker, steps);
     }
 }
 
 /// Runs a domain, and tells the others what it fired and what it can say of what it will fire.
-fn run_domain<C: Component, G: Gate>(
+fn run_domain<C: Component, W: DomainWay>(
     domains: &mut [Domain<C>],
     plan: &Plan<C>,
     parts: &Parts,
     outgoing: &Outgoing,
-    gate: &G,
+    way: &W,
     number: u16,
     worker: u16,
     steps: usize,
@@ -231,7 +230,7 @@ fn run_domain<C: Component, G: Gate>(
 {
     let index = usize::from(number);
     let place = domains[index].fired().len();
-    run_alone(&mut domains[index], plan, number, worker, gate, steps);
+    run_alone(&mut domains[index], plan, number, worker, way, steps);
     tell_from(domains, plan, parts, outgoing, number, place);
     tell_bounds(domains, plan, parts, number);
 }

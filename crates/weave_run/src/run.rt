@@ -5,18 +5,18 @@ ghost use Rattle.weave_core.specs.DomainCalls.{MayFire};
 ghost use Rattle.weave_run.specs.Rounds.{CanWeavePlan, HasFiredNext, HasRun, KeepsToWeave};
 
 use crate::plan::Plan;
+use crate::way::DomainWay;
 use component::Component;
 use event_graph::Fired;
 use weave_core::{Domain, Next, laws};
-use zs_host::{Gate, Point};
 
 /// Fires the domain's next event once the gate lets it.
-pub(crate) fn fire<C: Component, G: Gate>(
+pub(crate) fn fire<C: Component, W: DomainWay>(
     domain: &mut Domain<C>,
     plan: &Plan<C>,
     number: u16,
     worker: u16,
-    gate: &G,
+    way: &W,
 ) -> Fired
     requires can { CanWeavePlan C.serves C.floor C.stepped C.greatest plan.now }
     requires kept { KeepsToWeave C.stepped plan.now domain.old }
@@ -24,17 +24,17 @@ pub(crate) fn fire<C: Component, G: Gate>(
     ensures { HasFiredNext C.stepped plan.now domain.old domain.new result }
 {
     laws::domains_keep_to_the_weave::<C>();
-    gate.pass(worker, Point::Fire { domain: number });
+    way.pass(worker, number);
     domain.fire()
 }
 
 /// Fires while the next event may fire, at most so many times.
-pub(crate) fn run_alone<C: Component, G: Gate>(
+pub(crate) fn run_alone<C: Component, W: DomainWay>(
     domain: &mut Domain<C>,
     plan: &Plan<C>,
     number: u16,
     worker: u16,
-    gate: &G,
+    way: &W,
     steps: usize,
 )
     requires can { CanWeavePlan C.serves C.floor C.stepped C.greatest plan.now }
@@ -47,6 +47,6 @@ pub(crate) fn run_alone<C: Component, G: Gate>(
         let Next::Fire { .. } = domain.next() else {
             return;
         };
-        let _fired = fire(domain, plan, number, worker, gate);
+        let _fired = fire(domain, plan, number, worker, way);
     }
 }

@@ -11,19 +11,21 @@ use crate::ended::finish_all;
 use crate::outgoing::Outgoing;
 use crate::plan::Plan;
 use crate::team::Team;
+use crate::way::DomainWay;
 use component::{Component, Comps};
 use domain_map::Parts;
 use event_graph::{Fired, Graph};
 use std::alloc::Global;
+use std::sync::Arc;
 use weave_core::Domain;
 use zs_num::NoMemory;
 
 /// All that the rounds work on.
 #[derive(Drop)]
-pub(crate) struct Prepared<C: Component> {
+pub(crate) struct Prepared<C: Component, W: DomainWay> {
     /// By their numbers.
     pub(crate) domains: Vec<Domain<C>>,
-    pub(crate) outgoing: Outgoing,
+    pub(crate) outgoing: Arc<Outgoing>,
     /// The events with their times, by number.
     pub(crate) times: Vec<Fired>,
     /// Room for all components.
@@ -31,29 +33,30 @@ pub(crate) struct Prepared<C: Component> {
     /// Room for the components of each domain.
     pub(crate) lists: Vec<Vec<C>>,
     /// The workers that run domains beside each other; none where one worker runs all.
-    pub(crate) team: Option<Team<C>>,
+    pub(crate) team: Option<Team<C, W>>,
 }
 
 /// What is taken while the components are still in one list.
 #[derive(Drop)]
-pub(crate) struct Room<C: Component> {
+pub(crate) struct Room<C: Component, W: DomainWay> {
     pub(crate) rooms: Vec<Vec<C>>,
     pub(crate) domains: Vec<Domain<C>>,
-    pub(crate) outgoing: Outgoing,
+    pub(crate) outgoing: Arc<Outgoing>,
     pub(crate) times: Vec<Fired>,
     pub(crate) lists: Vec<Vec<C>>,
-    pub(crate) team: Option<Team<C>>,
+    pub(crate) team: Option<Team<C, W>>,
 }
 
 /// Takes all memory and lays all domains out. The components come back where it runs out.
-pub(crate) fn prepare<C: Component>(
+pub(crate) fn prepare<C: Component, W: DomainWay>(
     alloc: Global,
     graph: &Graph,
     parts: &Parts,
     plan: &Plan<C>,
     comps: Comps<C>,
     workers: u16,
-) -> Result<Prepared<C>, (NoMemory, Comps<C>)>
+    way: &W,
+) -> Result<Prepared<C, W>, (NoMemory, Comps<C>)>
     requires graph { graph.now ≡ plan.now.graph.value }
     requires parts { parts.now ≡ plan.now.parts.value }
     requires comps { comps ≡ plan.now.comps.value }
@@ -64,7 +67,7 @@ pub(crate) fn prepare<C: Component>(
     ensures prepared { IfOk result (λ prepared. IsPrepared C.stepped plan.now prepared) }
     ensures back { IfErr result (λ e. e.1 ≡ comps) }
 {
-    let room = match reserve_all(alloc, graph, parts, plan, &comps, workers) {
+    let room = match reserve_all(alloc, graph, parts, plan, &comps, workers, way) {
         Ok(room) => room,
         Err(error) => return Err((error, comps)),
     };
@@ -90,14 +93,16 @@ pub(crate) fn prepare<C: Component>(
     }
 }
 
-fn reserve_all<C: Component>(
+/// Takes it.
+fn reserve_all<C: Component, W: DomainWay>(
     alloc: Global,
     graph: &Graph,
     parts: &Parts,
     plan: &Plan<C>,
     comps: &Comps<C>,
     workers: u16,
-) -> Result<Room<C>, NoMemory>
+    way: &W,
+) -> Result<Room<C, W>, NoMemory>
     requires graph { graph.now ≡ plan.now.graph.value }
     requires parts { parts.now ≡ plan.now.parts.value }
     requires comps { comps.now ≡ plan.now.comps.value }
@@ -114,13 +119,15 @@ fn reserve_all<C: Component>(
         start: 0,
         finish: 0,
     };
+    let outgoing = Arc::new(alloc, Outgoing::of(alloc, events, parts.crossings())?)?;
+    let team = Team::of(alloc, graph, parts, plan, comps, &outgoing, workers, way)?;
     Ok(Room {
         rooms: rooms(alloc, parts.places().len(), domains)?,
         domains: Vec::with_capacity(alloc, usize::from(domains))?,
-        outgoing: Outgoing::of(alloc, events, parts.crossings())?,
+        outgoing,
         times: vec![in alloc; nothing; events]?,
         lists: Vec::with_capacity(alloc, usize::from(domains))?,
-        team: Team::of(alloc, graph, parts, plan, comps, workers)?,
+        team,
     })
 }
 

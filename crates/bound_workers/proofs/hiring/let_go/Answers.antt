@@ -1,91 +1,58 @@
-use Rattle.std.proofs.Common.{rules, ◌≡◌, ◌-◌, ◌%◌, ◌<◌, ℕ, suc, List, [], ◌∷◌, ◌++◌, get_or, length, reverse, set, refl, sym, ◌∙◌, ap, subst, arith, mod-lt}
-use Rattle.std.proofs.lemmas.List.{get_or_default, length-set}
-use Rattle.bound_workers.specs.declared.team.Team.{Team}
-use Rattle.bound_workers.specs.declared.member.Member.{Member}
-use Rattle.bound_workers.specs.Shares.{HaveReturned, HaveSizes, size_of_share}
-use Rattle.bound_workers.proofs.Returns.{LeftSoFar, all_left, none_left, one_left, one_size_less, own_size}
+-- The next core is the first that its worker has.
+use Rattle.std.proofs.Common.{◌≡◌, ◌<◌, List, length, refl, ◌∙◌, ap, arith}
+use Rattle.std.proofs.lemmas.List.{length_push}
+use Rattle.bound_workers.specs.Team.{Team}
+use Rattle.bound_workers.proofs.Returns.{all_left, next_can, none_left, one_left}
 use Rattle.bound_workers.proofs.hiring.let_go.Goals as goal
 
--- a worker's share of one more is not nothing, where it is the worker of the last
-one_there : (teams : List Team) (left : ℕ) (d : Team) → 0 < left → 0 < length teams → HaveSizes left teams
-    → 0 < length (get_or teams ((left - 1) % length teams) d).done.items
-one_there teams left d some some_teams sizes =
-    let worker : ℕ = (left - 1) % length teams in
-    let more : suc (left - 1) ≡ left = omega (arith, some) in
-    let size = sizes worker d (mod-lt (left - 1) some_teams) in
-    let count = own_size (length teams) worker (left - 1) refl in
-    let again = ap (size_of_share (length teams) worker) more in
-    omega (arith, size, count, again)
-
-pub loop-left-init : goal.loop-left-init
-loop-left-init c =
-    let is = c.from-left.ensures in
+pub loop-number-init : goal.loop-number-init
+loop-number-init c =
     let cores = c.requires.cores in
     let seats = c.requires.seats in
     let records = c.requires.records in
-    let none = ap length cores.0 in
-    let none_too = ap length seats.0 in
-    let none_either = ap length records.0 in
     record {
       some = refl;
-      sizes = subst (λ (n : ℕ). HaveSizes n c.args.teams.now) (sym is) c.requires.sizes;
-      cores_room = (let room = cores.1 in omega (arith, is, none, room));
-      seats_room = (let room = seats.1 in omega (arith, is, none_too, room));
-      records_room = (let room = records.1 in omega (arith, is, none_either, room));
-      so_far = λ time image end t members order size shares.
-          let first = none_left time image end t members c.args.teams.now shares in
-          subst (λ xs. LeftSoFar time image end t members c.from-left.result c.args.teams.now xs c.args.seats.now.items c.args.records.now.items) (sym cores.0)
-          (subst (λ ys. LeftSoFar time image end t members c.from-left.result c.args.teams.now [] ys c.args.records.now.items) (sym seats.0)
-          (subst (λ zs. LeftSoFar time image end t members c.from-left.result c.args.teams.now [] [] zs) (sym records.0)
-          (subst (λ (n : ℕ). LeftSoFar time image end t members n c.args.teams.now [] [] []) (size ∙ sym is) first)));
+      cores_count = ap length cores.0;
+      seats_count = ap length seats.0;
+      records_count = ap length records.0;
+      cores_room = cores.1;
+      seats_room = seats.1;
+      records_room = records.1;
+      so_far = λ members dealt size. none_left members c.args.teams.now c.args.cores.now.items c.args.seats.now.items c.args.records.now.items dealt cores.0 seats.0 records.0;
     }
 
-pub unreachable-requires : goal.unreachable-requires
-unreachable-requires c =
-    let before = c.loop-left.invariant in
-    let left : 0 < c.loop-left.left = c.loop-left-test.true in
-    let count = before.some in
-    let some = c.requires.some in
-    let there = one_there c.loop-left.teams c.loop-left.left c.index-teams-worker.result left (omega (arith, count, some)) before.sizes in
-    let items = c.in_default.ensures.items in
-    let variant = c.in_default.ensures.variant in
-    search rules
+pub take-core-requires : goal.take-core-requires
+take-core-requires c =
+    let before = c.loop-number.invariant in
+    let has = c.requires.dealt in
+    let below : c.loop-number.number < length has.members = (let t = c.loop-number-test.true in let e = c.from-number-end.ensures in let n = has.size in omega (arith, t, e, n)) in
+    next_can has.members c.loop-number.number c.loop-number.teams c.loop-number.cores.items c.loop-number.seats.items c.loop-number.records.items (before.so_far has.members has.dealt has.size) below
+    (let s = has.some in let n = before.some in omega (arith, s, n))
 
-pub loop-left-preserved : goal.loop-left-preserved
-loop-left-preserved c =
-    let before = c.loop-left.invariant in
-    let teams : List Team = c.loop-left.teams in
-    let left : ℕ = c.loop-left.left - 1 in
-    let positive : 0 < c.loop-left.left = c.loop-left-test.true in
-    let more : c.loop-left.left ≡ suc left = omega (arith, positive) in
-    let some_teams : 0 < length teams = let count = before.some in let some = c.requires.some in omega (arith, count, some) in
-    let worker : ℕ = left % length teams in
-    let within : worker < length teams = mod-lt left some_teams in
-    let new : Team = record { todo = (get_or teams worker c.index-teams-worker.result).todo; done = c.pop.new.self; places = (get_or teams worker c.index-teams-worker.result).places } in
-    let y : Member = c.in-Some.member in
-    let popped : (get_or teams worker new).done.items ≡ new.done.items ++ y ∷ [] =
-    ap (λ (x : Team). x.done.items) (get_or_default teams worker new c.index-teams-worker.result within) ∙ c.in-Some.ensures.items in
-    let same = length-set teams worker new in
+pub loop-number-preserved : goal.loop-number-preserved
+loop-number-preserved c =
+    let before = c.loop-number.invariant in
+    let teams : List Team = c.loop-number.teams in
+    let after : List Team = c.take-core.new.workers in
+    let cores = c.push_reserved.ensures in
+    let seats = c.push_reserved-in-loop-number.ensures in
+    let records = c.push_reserved-in-loop-number-2.ensures in
     record {
-      some = same ∙ before.some;
-      sizes = one_size_less left teams worker new y (subst (λ (n : ℕ). HaveSizes n teams) more before.sizes) refl within popped;
-      cores_room = search rules;
-      seats_room = search rules;
-      records_room = search rules;
-      so_far = λ time image end t members order size shares.
-          subst (λ xs. LeftSoFar time image end t members left (set teams worker new) xs c.push_reserved-in-loop-left.new.self.items c.push_reserved-in-loop-left-2.new.self.items) (sym c.push_reserved.ensures.items)
-          (subst (λ ys. LeftSoFar time image end t members left (set teams worker new) (c.loop-left.cores.items ++ y.core ∷ []) ys c.push_reserved-in-loop-left-2.new.self.items) (sym c.push_reserved-in-loop-left.ensures.items)
-          (subst (λ zs. LeftSoFar time image end t members left (set teams worker new) (c.loop-left.cores.items ++ y.core ∷ []) (c.loop-left.seats.items ++ y.seat ∷ []) zs) (sym c.push_reserved-in-loop-left-2.ensures.items)
-          (one_left time image end t members left teams c.loop-left.cores.items c.loop-left.seats.items c.loop-left.records.items worker new y order
-          (subst (λ (n : ℕ). LeftSoFar time image end t members n teams c.loop-left.cores.items c.loop-left.seats.items c.loop-left.records.items) more (before.so_far time image end t members order size shares)) refl within popped)));
+      some = c.take-core.auto.workers ∙ before.some;
+      cores_count = (let n = before.cores_count in let is = ap length cores.items ∙ length_push c.loop-number.cores.items c.take-core.result.core in omega (arith, n, is));
+      seats_count = (let n = before.seats_count in let is = ap length seats.items ∙ length_push c.loop-number.seats.items c.take-core.result.seat in omega (arith, n, is));
+      records_count = (let n = before.records_count in let is = ap length records.items ∙ length_push c.loop-number.records.items c.take-core.result.record in omega (arith, n, is));
+      cores_room = (let room = before.cores_room in let same = cores.capacity in omega (arith, room, same));
+      seats_room = (let room = before.seats_room in let same = seats.capacity in omega (arith, room, same));
+      records_room = (let room = before.records_room in let same = records.capacity in omega (arith, room, same));
+      so_far = λ members dealt size.
+          let below : c.loop-number.number < length members = (let t = c.loop-number-test.true in let e = c.from-number-end.ensures in omega (arith, t, e, size)) in
+          one_left members c.loop-number.number teams c.loop-number.cores.items c.loop-number.seats.items c.loop-number.records.items (before.so_far members dealt size) below c.take-core.result after c.push_reserved.new.self.items
+          c.push_reserved-in-loop-number.new.self.items c.push_reserved-in-loop-number-2.new.self.items (λ item items is. c.take-core.ensures.dealt item items is) cores.items seats.items records.items;
     }
 
 pub returns : goal.returns
-returns c = λ time image end t members order size shares.
-    let over = c.loop-left-test.false in
-    let none : c.loop-left.left ≡ 0 = omega (arith, over) in
-    subst (λ xs. HaveReturned time image end t members xs c.reverse-2.new.self.items c.reverse-3.new.self.items) (sym c.reverse.ensures.items)
-    (subst (λ ys. HaveReturned time image end t members (reverse c.loop-left.cores.items) ys c.reverse-3.new.self.items) (sym c.reverse-2.ensures.items)
-    (subst (λ zs. HaveReturned time image end t members (reverse c.loop-left.cores.items) (reverse c.loop-left.seats.items) zs) (sym c.reverse-3.ensures.items)
-    (all_left time image end t members c.loop-left.teams c.loop-left.cores.items c.loop-left.seats.items c.loop-left.records.items
-    (subst (λ (n : ℕ). LeftSoFar time image end t members n c.loop-left.teams c.loop-left.cores.items c.loop-left.seats.items c.loop-left.records.items) none (c.loop-left.invariant.so_far time image end t members order size shares)))))
+returns c = λ members dealt size.
+    let before = c.loop-number.invariant in
+    let end : c.loop-number.number ≡ length members = (let t = c.loop-number-test.false in let w = c.loop-number.auto.number-end in let e = c.from-number-end.ensures in omega (arith, t, w, e, size)) in
+    all_left members c.loop-number.number c.loop-number.teams c.loop-number.cores.items c.loop-number.seats.items c.loop-number.records.items (before.so_far members dealt size) end

@@ -1,8 +1,7 @@
 use denote.Exit.{yes}
 use denote.Param.{param}
 use denote.Param.Send.{arg_send, param_send}
-use Rattle.std.proofs.Common.{◌≡◌, ◌+◌, List, All, length, map, sym, ◌∙◌, ap, subst, arith}
-use Rattle.std.proofs.lemmas.List.{length-map}
+use Rattle.std.proofs.Common.{List, All, sym, subst}
 use Rattle.std.proofs.lemmas.List.Elements.{All-map}
 use Rattle.crew.specs.Sharing.{AreDone}
 use Rattle.bound_workers.specs.Works.{AreCores, CanDo, HasDone, HasShared}

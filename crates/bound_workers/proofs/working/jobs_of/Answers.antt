@@ -1,5 +1,4 @@
-use Rattle.std.proofs.Common.{◌≡◌, ◌<◌, ◌++◌, List, length, map, refl, sym, ◌∙◌, subst, rules}
-use Rattle.std.specs.List.{remove}
+use Rattle.std.proofs.Common.{◌≡◌, ◌<◌, ◌++◌, List, length, map, sym, subst, rules}
 use Rattle.bound_workers.specs.declared.share.Share.{Share}
 use Rattle.bound_workers.specs.declared.work.Work.{Work}
 use Rattle.bound_workers.specs.declared.work.Work.TheVariants.{Cores}

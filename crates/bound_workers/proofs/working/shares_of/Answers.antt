@@ -1,11 +1,11 @@
 -- A share more has the next worker's cores.
-use Rattle.std.proofs.Common.{All, ◌≡◌, ◌<◌, ◌+◌, ◌++◌, ◌∷◌, [], List, get_or, length, map, sym, ◌∙◌, ap, subst, arith, refl, rules, append_assoc}
+use Rattle.std.proofs.Common.{All, ◌≡◌, ◌<◌, ◌++◌, ◌∷◌, [], List, get_or, length, map, sym, ◌∙◌, ap, subst, arith, refl, rules, append_assoc}
 use Rattle.std.specs.Arc.{arc_value}
 use Rattle.std.specs.List.{remove}
-use Rattle.std.proofs.lemmas.List.{length-append, map-append}
+use Rattle.std.proofs.lemmas.List.{map-append}
 use Rattle.std.proofs.lemmas.List.Elements.{All-push}
 use Rattle.bound_workers.specs.declared.share.Share.{Share}
-use Rattle.bound_workers.specs.declared.team.Team.{Team}
+use Rattle.bound_workers.specs.Team.{Team}
 use Rattle.bound_workers.proofs.working.shares_of.Goals as goal
 
 -- what holds of the shares so far and of the next

@@ -1,5 +1,4 @@
 use Rattle.std.proofs.Common.{All, ◌≡◌, ◌<◌, ◌++◌, List, length, map, sym, subst, rules}
-use Rattle.std.specs.List.{remove}
 use Rattle.bound_workers.specs.Works.{AreCores}
 use Rattle.bound_workers.specs.declared.share.Share.{Share}
 use Rattle.bound_workers.specs.declared.work.Work.{Work}

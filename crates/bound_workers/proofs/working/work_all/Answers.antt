@@ -1,11 +1,9 @@
-use Rattle.std.proofs.Common.{◌≡◌, ℕ, ◌<◌, List, length, get_or, arith}
+use Rattle.std.proofs.Common.{◌<◌, List, length, get_or, arith}
 use Rattle.std.specs.Arc.{arc_value}
-use Rattle.zs_num.specs.declared.entry.Entry.{Entry}
 use Rattle.noc_mesh.specs.NetTiming.{net_time}
 use Rattle.bound_workers.specs.Team.{CanWork, HasWorked}
 use Rattle.bound_workers.specs.Works.{HasShared}
 use Rattle.bound_workers.specs.declared.share.Share.{Share}
-use Rattle.bound_workers.specs.declared.team.Team.{Team}
 use Rattle.bound_workers.proofs.Sharing.{all_done, can_at, same_can, same_work}
 use Rattle.bound_workers.proofs.working.work_all.Goals as goal
 

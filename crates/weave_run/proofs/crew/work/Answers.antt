@@ -1,41 +1,72 @@
--- The next domain is as it was.
-use Rattle.std.proofs.Common.{◌≡◌, ◌<◌, ◌-◌, ◌+◌, ℕ, Some, slice_get, sym, ◌∙◌, ap, subst, arith, length-set}
-use Rattle.std.proofs.lemmas.Option.{slice_get-get_or}
+-- The first domain of the queue runs, and goes behind all others.
+use Rattle.std.proofs.Common.{rules, ◌≡◌, ◌-◌, ◌+◌, ◌<◌, ℕ, suc, List, ◌∷◌, length, refl, sym, ◌∙◌, subst, arith}
 use Rattle.weave_run.specs.declared.post.Post.{Post}
-use Rattle.weave_run.proofs.Lots.{IsWorking, all_worked, one_worked}
+use Rattle.weave_run.proofs.Working.{ServedSoFar, all_served, first_can, next_served, none_served, some_left}
 use Rattle.weave_run.proofs.crew.work.Goals as goal
 
-pub run_beside_others-requires-clause-post : goal.run_beside_others-requires-clause-post
-run_beside_others-requires-clause-post g c κs within =
-    let i = c.loop-left.invariant in
-    let place : ℕ = c.loop-left.left - 1 in
-    let some : 0 < c.loop-left.left = c.loop-left-test.true in
-    let there : slice_get c.loop-left.crew.posts.items place ≡ Some c.index_mut-post.result.now =
-    slice_get-get_or c.loop-left.crew.posts.items place c.index_mut-post.result.now (let w = i.within in omega (arith, w, some)) ∙ ap (λ (p : Post g.row.C.Denot). Some p) (sym c.index_mut-post.ensures.value)
-    in
-    c.requires.crew.each place c.index_mut-post.result.now (sym (i.so_far.same place (omega (arith, some))) ∙ there)
-
-pub loop-left-preserved : goal.loop-left-preserved
-loop-left-preserved g c =
-    let i = c.loop-left.invariant in
-    let place : ℕ = c.loop-left.left - 1 in
-    let some : 0 < c.loop-left.left = c.loop-left-test.true in
-    let there : slice_get c.loop-left.crew.posts.items place ≡ Some c.index_mut-post.result.now =
-    slice_get-get_or c.loop-left.crew.posts.items place c.index_mut-post.result.now (let w = i.within in omega (arith, w, some)) ∙ ap (λ (p : Post g.row.C.Denot). Some p) (sym c.index_mut-post.ensures.value)
-    in
-    let so_far : IsWorking g.C.Component.stepped c.args.plan.now c.args.crossings.now c.args.crew.now.posts.items c.loop-left.crew.posts.items (place + 1) =
-    subst (IsWorking g.C.Component.stepped c.args.plan.now c.args.crossings.now c.args.crew.now.posts.items c.loop-left.crew.posts.items) (omega (arith, some)) i.so_far
-    in
+pub loop-init : goal.loop-init
+loop-init g c =
+    let all : List (Post g.row.C.Denot) = c.args.crew.now.queue.items in
     record {
-      so_far = one_worked g.C.Component.stepped c.args.plan.now c.args.crossings.now c.args.crew.now.posts.items c.loop-left.crew.posts.items place c.index_mut-post.result.now c.run_beside_others.new.post so_far there
-          c.run_beside_others.ensures;
-      within = (let w = i.within in let n = length-set c.loop-left.crew.posts.items place c.run_beside_others.new.post in omega (arith, w, some, n));
-      room = i.room;
+      so_far = subst (λ (n : ℕ). ServedSoFar g.C.Component.stepped c.args.plan.now c.args.crossings.now all n all) (let same : length all ≡ length all - 0 = omega arith in same)
+          (none_served g.C.Component.stepped c.args.plan.now c.args.crossings.now all);
+      within = omega arith;
+      room = refl;
+    }
+
+pub unreachable-requires : goal.unreachable-requires
+unreachable-requires g c =
+    let all : List (Post g.row.C.Denot) = c.args.crew.now.queue.items in
+    let t = c.loop-test.true in
+    let e = c.len-end.ensures in
+    let ok = c.args.crew.now.queue.ok in
+    let size = ok.0 in
+    let left : 0 < length all - c.loop.counter = omega (arith, t, e, size) in
+    let some = some_left g.C.Component.stepped c.args.plan.now c.args.crossings.now all (length all - c.loop.counter) c.loop.crew.queue.items left c.loop.invariant.so_far in
+    let now = c.loop.crew.queue.ok in
+    let long = now.0 in
+    let more : 0 < c.loop.crew.queue.len = omega (arith, some, long) in
+    let none = c.in_default.is in
+    let variant = c.pop_front.ensures.variant in
+    search rules
+
+pub run_beside_others-requires-clause-post : goal.run_beside_others-requires-clause-post
+run_beside_others-requires-clause-post g c =
+    let all : List (Post g.row.C.Denot) = c.args.crew.now.queue.items in
+    let t = c.loop-test.true in
+    let e = c.len-end.ensures in
+    let ok = c.args.crew.now.queue.ok in
+    let size = ok.0 in
+    let left : length all - c.loop.counter ≡ suc (length all - (c.loop.counter + 1)) = omega (arith, t, e, size) in
+    first_can g.C.Component.stepped c.args.plan.now c.args.crossings.now c.args.crew.now (length all - (c.loop.counter + 1)) c.in-Some.post c.pop_front.new.self.items c.requires.crew
+    (subst (λ (n : ℕ). ServedSoFar g.C.Component.stepped c.args.plan.now c.args.crossings.now all n (c.in-Some.post ∷ c.pop_front.new.self.items)) left
+    (subst (ServedSoFar g.C.Component.stepped c.args.plan.now c.args.crossings.now all (length all - c.loop.counter)) c.in-Some.ensures.items c.loop.invariant.so_far))
+
+pub loop-preserved : goal.loop-preserved
+loop-preserved g c =
+    let all : List (Post g.row.C.Denot) = c.args.crew.now.queue.items in
+    let t = c.loop-test.true in
+    let e = c.len-end.ensures in
+    let ok = c.args.crew.now.queue.ok in
+    let size = ok.0 in
+    let left : length all - c.loop.counter ≡ suc (length all - (c.loop.counter + 1)) = omega (arith, t, e, size) in
+    record {
+      so_far = subst (ServedSoFar g.C.Component.stepped c.args.plan.now c.args.crossings.now all (length all - (c.loop.counter + 1))) (sym {A = List (Post g.row.C.Denot)} c.push_back_reserved.ensures.items)
+          (next_served g.C.Component.stepped c.args.plan.now c.args.crossings.now all (length all - (c.loop.counter + 1)) c.pop_front.new.self.items c.in-Some.post c.run_beside_others.new.post
+          (subst (λ (n : ℕ). ServedSoFar g.C.Component.stepped c.args.plan.now c.args.crossings.now all n (c.in-Some.post ∷ c.pop_front.new.self.items)) left
+          (subst (ServedSoFar g.C.Component.stepped c.args.plan.now c.args.crossings.now all (length all - c.loop.counter)) c.in-Some.ensures.items c.loop.invariant.so_far)) c.run_beside_others.ensures);
+      within = omega (arith, t, e, size);
+      room = c.push_back_reserved.ensures.capacity ∙ (c.pop_front.ensures.capacity ∙ c.loop.invariant.room);
     }
 
 pub returns : goal.returns
 returns g c =
-    let i = c.loop-left.invariant in
-    let over = c.loop-left-test.false in
-    all_worked g.C.Component.stepped c.args.plan.now c.args.crossings.now c.args.crew.now c.loop-left.crew
-    (subst (IsWorking g.C.Component.stepped c.args.plan.now c.args.crossings.now c.args.crew.now.posts.items c.loop-left.crew.posts.items) (omega (arith, over)) i.so_far) i.room
+    let all : List (Post g.row.C.Denot) = c.args.crew.now.queue.items in
+    let t = c.loop-test.false in
+    let w = c.loop.invariant.within in
+    let e = c.len-end.ensures in
+    let ok = c.args.crew.now.queue.ok in
+    let size = ok.0 in
+    let none : length all - c.loop.counter ≡ 0 = omega (arith, t, w, e, size) in
+    all_served g.C.Component.stepped c.args.plan.now c.args.crossings.now c.args.crew.now c.loop.crew
+    (subst (λ (n : ℕ). ServedSoFar g.C.Component.stepped c.args.plan.now c.args.crossings.now all n c.loop.crew.queue.items) none c.loop.invariant.so_far) c.loop.invariant.room

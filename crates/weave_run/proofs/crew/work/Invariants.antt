@@ -1,14 +1,12 @@
--- The domains from the place on have run.
-use Rattle.std.proofs.Common.{◌≡◌, ◌≤◌, length, vec_capacity}
-use Rattle.weave_run.proofs.Lots.{IsWorking}
+-- Those that ran are behind those that are left.
+use Rattle.std.proofs.Common.{◌≡◌, ◌-◌, ◌≤◌, length}
+use Rattle.std.specs.VecDeque.{deque_capacity}
+use Rattle.weave_run.proofs.Working.{ServedSoFar}
 use Rattle.weave_run.proofs.crew.work.Given as goal
 
-abbrev pub invariant-loop-left : goal.invariant-loop-left
-invariant-loop-left g l = record {
-  so_far : IsWorking g.C.Component.stepped l.fn.plan l.fn.crossings l.fn.crew.posts.items l.crew.posts.items l.left;
-  within : l.left ≤ length l.crew.posts.items;
-  room : vec_capacity l.crew.posts ≡ vec_capacity l.fn.crew.posts;
+abbrev pub invariant-loop : goal.invariant-loop
+invariant-loop g l = record {
+  so_far : ServedSoFar g.C.Component.stepped l.fn.plan l.fn.crossings l.fn.crew.queue.items (length l.fn.crew.queue.items - l.counter) l.crew.queue.items;
+  within : l.counter ≤ length l.fn.crew.queue.items;
+  room : deque_capacity l.crew.queue ≡ deque_capacity l.fn.crew.queue;
 }
-
-abbrev pub decreases-loop-left : goal.decreases-loop-left
-decreases-loop-left g l = l.left

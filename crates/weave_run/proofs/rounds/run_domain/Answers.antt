@@ -4,7 +4,7 @@ use Rattle.weave_run.proofs.Rounding.{keeps_here, ran_number, run_here, told_mor
 use Rattle.weave_run.proofs.rounds.run_domain.Goals as goal
 
 pub run_alone-requires-clause-kept : goal.run_alone-requires-clause-kept
-run_alone-requires-clause-kept g c κs within =
+run_alone-requires-clause-kept g c =
     keeps_here g.C.Component.stepped c.args.plan.now c.args.domains.now c.args.number c.from-index.result c.index-domains-index-2.result c.requires.met.kept c.requires.there c.from-index.ensures
 
 pub tell_from-requires-clause-kept : goal.tell_from-requires-clause-kept

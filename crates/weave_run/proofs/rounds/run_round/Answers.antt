@@ -5,6 +5,7 @@ use Rattle.weave_core.specs.DomainCalls.{DomainValue}
 use Rattle.weave_run.specs.Rounds.{HasRunRound}
 use Rattle.weave_run.specs.Teams.{IsTeam}
 use Rattle.weave_run.specs.declared.team.Team.{Team}
+use Rattle.weave_run.specs.declared.way.WatchedDomains.{WatchedDomains}
 use Rattle.weave_run.proofs.Seatings.{team_after}
 use Rattle.weave_run.proofs.Wovens.{lent}
 use Rattle.weave_run.proofs.rounds.run_round.Goals.{in-Some+else-beside, in_default}
@@ -24,5 +25,5 @@ returns-clause-team g c =
     (let a = c.args.domains.now.ok in let b = c.run_here.auto.domains in let d = ap length c.as_mut_slice.ensures.value in omega (arith, a, b, d))
     in
     subst (λ (vs : List (DomainValue g.row.C.Denot)). IfSome c.match-team.team (IsTeam g.C.Component.stepped c.args.plan.now vs)) (sym (lent c.args.domains.now.len c.run_here.new.domains _ size))
-    (subst (λ (t : Option (Team g.row.C.Denot)). IfSome t (IsTeam g.C.Component.stepped c.args.plan.now c.run_here.new.domains)) (sym team)
+    (subst (λ (t : Option (Team g.row.C.Denot (WatchedDomains g.row.G.Denot))). IfSome t (IsTeam g.C.Component.stepped c.args.plan.now c.run_here.new.domains)) (sym team)
     (team_after g.C.Component.stepped c.args.plan.now first c.run_here.new.domains c.args.team.now c.requires.met.kept ran.has_met.met.kept ran.has_met.grow c.requires.team))

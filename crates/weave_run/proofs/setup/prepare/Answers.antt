@@ -66,8 +66,3 @@ returns-in-Ok-prepare_all-clause-prepared g c =
       lists = rw all.lists room.lists;
       team = room.team;
     }
-
-pub returns-in-Err-prepare_all-clause-back : goal.returns-in-Err-prepare_all-clause-back
-returns-in-Err-prepare_all-clause-back g c =
-    c.gather.ensures c.args.comps (sym c.requires.partitioned.places ∙ ap length (sym c.places-in-Err-prepare_all.ensures))
-    (rw (c.places-in-Err-prepare_all.ensures, c.as_mut_slice-in-Err-prepare_all.ensures.value, c.requires.comps) c.in-Err-prepare_all.ensures.back)

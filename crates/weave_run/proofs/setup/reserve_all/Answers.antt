@@ -16,8 +16,8 @@ returns g c =
     record {
       rooms = rw (← domains, ← places) c.in_ok-rooms.ensures;
       domains = (c.in_ok-with_capacity.ensures.items, omega (arith, c.in_ok-with_capacity.ensures.capacity, c.from.ensures, domains));
-      outgoing = rw (← events, ← crossings) c.in_ok-of.ensures;
+      outgoing = rw (← events, ← crossings, c.in_ok-outgoing.ensures.ok) c.in_ok-of.ensures;
       times = omega (arith, c.in_ok-vec.ensures.len, c.in_ok-vec.field-0.ok, events);
       lists = (c.in_ok-with_capacity-2.ensures.items, omega (arith, c.in_ok-with_capacity-2.ensures.capacity, c.from-2.ensures, domains));
-      team = c.in_ok-of-2.ensures;
+      team = c.in_ok-team.ensures;
     }
