@@ -1,7 +1,9 @@
+pub mod ByCore
+pub mod Counts
 pub mod Entries
+pub mod Firsts
 pub mod InChunk
 pub mod InChunks
+pub mod NextSet
 pub mod Places
-pub mod Firsts
-pub mod Counts
 pub mod Whole

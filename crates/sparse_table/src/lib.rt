@@ -2,9 +2,12 @@
 //! what was set.
 #![tactic(auto)]
 
+pub mod by_core;
 mod chunk;
 mod chunks;
 pub mod laws;
+mod next;
 mod table;
 
+pub use next::earlier;
 pub use table::SparseTable;

@@ -1,0 +1,4 @@
+pub mod Counting
+pub mod NextCounted
+pub mod Sound
+pub mod Sums

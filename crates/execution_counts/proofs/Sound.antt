@@ -1,0 +1,36 @@
+-- Tables stay sound.
+use Rattle.std.proofs.Common.{◌≡◌, ◌≢◌, ℕ, ◌+◌, ◌*◌, ◌<◌, ◌≤◌, ◌^◌, ◌==◌, true, false, List, ◌⊎◌, inl, inr, arith, subst}
+use Rattle.std.proofs.lemmas.Bool.Decides.{eqb_tells}
+use Rattle.sparse_table.specs.ByCore.{HaveNone, value_at, with_one}
+use Rattle.sparse_table.specs.Sparse.{Sparse}
+use Rattle.execution_counts.specs.declared.stretch.Stretch.{Stretch}
+use Rattle.execution_counts.specs.Counted.{AreSound, Counts, no_stretch}
+
+module _ (singles : List (Sparse ℕ)) (old new : List (Sparse Stretch)) (sound : AreSound (record { singles = singles; stretches = old }))
+    (none : HaveNone no_stretch old → HaveNone no_stretch new) where
+  abbrev after : Counts
+  after = record { singles = singles; stretches = new }
+
+  -- where all stretches are as they were
+  pub sound_same : ((c n : ℕ) → value_at no_stretch new c n ≡ value_at no_stretch old c n) → AreSound after
+  sound_same same = record {
+    none_single = sound.none_single;
+    none_stretch = none sound.none_stretch;
+    within = λ c n place lt. sound.within c n place (subst (λ (s : Stretch). place < s.count) (same c n) lt);
+  }
+
+  -- and where one more fits
+  pub sound_more : (core pc : ℕ) (more : Stretch) → pc + 4 * more.count ≤ 2 ^ 64 → ((c n : ℕ) → value_at no_stretch new c n ≡ with_one core pc more (value_at no_stretch old) c n) → AreSound after
+  sound_more core pc more fits sets = record {
+    none_single = sound.none_single;
+    none_stretch = none sound.none_stretch;
+    within = λ c n place lt. by c n place (eqb_tells core c) (eqb_tells pc n) (subst (λ (s : Stretch). place < s.count) (sets c n) lt);
+  }
+    where
+      by : (c n place : ℕ) → ((core == c) ≡ true × (core ≡ c)) ⊎ ((core == c) ≡ false × (core ≢ c)) → ((pc == n) ≡ true × (pc ≡ n)) ⊎ ((pc == n) ≡ false × (pc ≢ n))
+          → place < (with_one core pc more (value_at no_stretch old) c n).count → n + 4 * place < 2 ^ 64
+      by c n place (inl (by_core, same)) (inl (here, at)) lt =
+          let in_it : place < more.count = rw (by_core, here) at lt in
+          omega (arith, in_it, fits, at)
+      by c n place (inl (by_core, same)) (inr (not_here, other)) lt = sound.within c n place (rw (by_core, not_here) at lt)
+      by c n place (inr (no_core, other)) at lt = sound.within c n place (rw no_core at lt)
