@@ -9,5 +9,7 @@ mod printed;
 mod summary;
 mod writer;
 
+pub use core_lines::write_halt;
+pub use fields::write_hexadecimal;
 pub use printed::write_printed;
 pub use writer::text;

@@ -1,8 +1,11 @@
-//! Tests of what is counted of a run and of its report, through the public calls of their crates.
+//! Tests of what is counted of a run, of its report and of the files of a profile, through the public
+//! calls of their crates.
 #![tactic(auto)]
 
 #[cfg(test)]
 mod counting;
+#[cfg(test)]
+mod files;
 #[cfg(test)]
 mod lines;
 #[cfg(test)]

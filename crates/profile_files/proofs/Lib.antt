@@ -1,0 +1,4 @@
+mod Added
+mod Runs
+mod Sorting
+mod StableOrder
