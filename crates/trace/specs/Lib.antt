@@ -1,4 +1,6 @@
+pub mod Laws
 pub mod Port
+pub mod Told
 pub mod Trace
 pub mod TracedRun
 pub mod Turns

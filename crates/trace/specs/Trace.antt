@@ -1,6 +1,6 @@
 -- The trace of a run: what its cores and its weave do, step by step, in the order in which the machine of one thread
 -- does it.
-use Rattle.std.specs.Prelude.{◌≡◌, ℕ, zero, suc, ◌-◌, if◌then◌else◌, List, [], ◌∷◌, ◌++◌, flat_map, map, option_to_list, replicate, slice_get, Result, Ok, Err}
+use Rattle.std.specs.Prelude.{◌≡◌, ℕ, zero, suc, ◌+◌, ◌-◌, if◌then◌else◌, List, [], ◌∷◌, ◌++◌, flat_map, map, option_to_list, replicate, slice_get, Result, Ok, Err}
 use Rattle.std.specs.List.{enumerate_from}
 use Rattle.std.specs.Option.{option_map_or}
 use Rattle.zs_num.specs.declared.entry.Entry.{Entry}
@@ -25,6 +25,11 @@ pub data Step : Type 0 where
   Accessed : (pc : ℕ) → Entry → Leaving → Step
   -- an interval ended, and its events were woven
   Ended : Interval → Step
+
+-- a core executed so many instructions that follow each other, the first of them at pc
+abbrev pub stretch_steps : (core pc count : ℕ) → List Step
+stretch_steps core pc zero = []
+stretch_steps core pc (suc n) = Executed core pc ∷ stretch_steps core (pc + 4) n
 
 -- ---- a core
 

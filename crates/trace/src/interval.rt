@@ -58,6 +58,7 @@ pub fn interval_under<T: Tracer>(
     requires goes_on { (s : RunState) × HasNextInterval machine.now end s (as_run machine.now run.old) }
     ensures leads { OnOk result ((s : RunState) → HasNextInterval machine.now end s (as_run machine.now run.old) → LeadsTo machine.now program.now s turns.now (as_run machine.now run.new)) }
     ensures told { OnOk result ((s : RunState) → HasNextInterval machine.now end s (as_run machine.now run.old) → T.steps tracer.new ≡ T.steps tracer.old ++ interval_steps machine.now program.now s turns.now) }
+    ensures fixed { T.fixed tracer.new ≡ T.fixed tracer.old }
     ensures illegal { IfErr result (λ fail. IfIllegal fail (λ at. (at.interval ≡ interval) × ((s : RunState) → HasNextInterval machine.now end s (as_run machine.now run.old) → after_interval machine.now program.now s turns.now ≡ Err (record { interval = length s.intervals; place = at.place })))) }
 {
     rv_core::laws::cores_stay_sound();
@@ -96,6 +97,7 @@ fn bound_under<T: Tracer>(
     requires room { HasRoomForInterval machine.now end (as_run machine.now run.old) }
     ensures bounded { IfOk result (IsBoundPhase machine.now program.now end (as_run machine.now run.old) turns.now (as_run machine.now run.new)) }
     ensures told { IfOk result (λ _. T.steps tracer.new ≡ T.steps tracer.old ++ phase_steps shards_serve leaves_shards program.now end (time_of machine.now) turns.now (begun_over_shards (timed_of run.old.cores.items) (map restarted run.old.port.world.shards))) }
+    ensures fixed { T.fixed tracer.new ≡ T.fixed tracer.old }
     ensures illegal { IfErr result (λ fail. IfIllegal fail (λ at. (at.interval ≡ interval) × (bound_phase shards_serve (time_of machine.now) program.now end turns.now (begun_over_shards (timed_of run.old.cores.items) (map restarted run.old.port.world.shards)) ≡ Err at.place))) }
     ensures comps { run.new.comps ≡ run.old.comps }
     ensures counters { run.new.counters ≡ run.old.counters }
@@ -144,6 +146,7 @@ fn run_turns<T: Tracer>(
     requires room { access_room machine.now ≤ min (room_of port.old.world) port.old.room }
     ensures turned { OnOk result (HaveTurned machine.now program.now end turns.now cores.old cores.new port.old port.new) }
     ensures told { OnOk result (T.steps tracer.new ≡ T.steps tracer.old ++ phase_steps shards_serve leaves_shards program.now end (time_of machine.now) turns.now (phase_of cores.old port.old)) }
+    ensures fixed { T.fixed tracer.new ≡ T.fixed tracer.old }
     ensures illegal { IfErr result (λ fail. IfIllegal fail (λ at. (at.interval ≡ interval) × (bound_phase shards_serve (time_of machine.now) program.now end turns.now (phase_of cores.old port.old) ≡ Err at.place))) }
 {
     reserve_all(machine, cores)?;
@@ -169,6 +172,7 @@ fn take_in<T: Tracer>(
     requires cores { All (λ e. e.core < machine.now.cores) entries.now }
     ensures leads { OnOk result ((image : MemoryImage) (s : RunState) (turns : List ℕ) → HasFired machine.now image s turns (as_run machine.now run.old) entries.now graph fired → (leads : LeadsTo machine.now image s turns (as_run machine.now run.new)) × (leads.entries ≡ entries.now)) }
     ensures told { OnOk result ((image : MemoryImage) (s : RunState) (turns : List ℕ) → HasFired machine.now image s turns (as_run machine.now run.old) entries.now graph fired → T.steps tracer.new ≡ T.steps tracer.old ++ Ended (woven_interval machine.now s.comps entries.now) ∷ []) }
+    ensures fixed { T.fixed tracer.new ≡ T.fixed tracer.old }
 {
     stats::laws::counters_are_sums();
     stats::laws::sums_fit();
@@ -195,7 +199,8 @@ fn tell_end<T: Tracer>(
     entries: &Entries,
     woven: &WovenInterval,
 ) -> Result<(), NoMemory>
-    ensures { OnOk result (T.steps tracer.new ≡ T.steps tracer.old ++ Ended (interval_of entries.now woven.now) ∷ []) }
+    ensures told { OnOk result (T.steps tracer.new ≡ T.steps tracer.old ++ Ended (interval_of entries.now woven.now) ∷ []) }
+    ensures fixed { T.fixed tracer.new ≡ T.fixed tracer.old }
 {
     let delays = woven.delays.as_slice();
     tracer.ended(entries, &woven.graph, &woven.fired, delays)

@@ -3,6 +3,7 @@
 
 mod alone;
 mod interval;
+pub mod laws;
 mod logged_port;
 mod traced_run;
 mod tracer;

@@ -37,6 +37,7 @@ pub fn trace<T: Tracer>(
     ensures counted { IfOk result (HasCounts machine.now) }
     ensures numbered { IfOk result (λ r. r.numbers ≡ range_with_len 0 machine.now.cores) }
     ensures told { IfOk result (λ _. (steps : List Step) × IsTraceOf machine.now image.now schedule.now.lists steps × (T.steps tracer.new ≡ T.steps tracer.old ++ steps)) }
+    ensures fixed { T.fixed tracer.new ≡ T.fixed tracer.old }
 {
     let program = DecodedProgram::of(alloc, image)?;
     let traced = TracedRun::new(alloc, machine, image)?;
@@ -59,6 +60,7 @@ fn trace_on<T: Tracer>(
     ensures counted { IfOk result (HasCounts machine.now) }
     ensures numbered { IfOk result (λ r. r.numbers ≡ range_with_len 0 machine.now.cores) }
     ensures told { IfOk result (λ _. (steps : List Step) × IsTraceOf machine.now program.now schedule.now.lists steps × (T.steps tracer.new ≡ T.steps tracer.old ++ steps)) }
+    ensures fixed { T.fixed tracer.new ≡ T.fixed tracer.old }
 {
     let net = Net::of(machine);
     let mut list = Vec::new(alloc);

@@ -45,6 +45,7 @@ pub fn take_turns<T: Tracer>(
     ensures illegal { IfErr result (λ fail. IfIllegal fail (λ at. (at.interval ≡ interval) × (bound_phase shards_serve (time_by_net net.now) program.now end turns.now (phase_of cores.old port.old) ≡ Err at.place))) }
     ensures taken { IfOk result (λ _. (most : ℕ) → HaveTaken (time_by_net net.now) program.now end most (phase_of cores.old port.old) [] cores.old port.old → HaveTaken (time_by_net net.now) program.now end most (phase_of cores.old port.old) turns.now cores.new port.new) }
     ensures told { IfOk result (λ _. T.steps tracer.new ≡ T.steps tracer.old ++ phase_steps shards_serve leaves_shards program.now end (time_by_net net.now) turns.now (phase_of cores.old port.old)) }
+    ensures fixed { T.fixed tracer.new ≡ T.fixed tracer.old }
     ensures over { IfOk result (λ _. All (IsOver end) (timed_of cores.new)) }
     ensures count { length cores.new ≡ length cores.old }
 {
@@ -85,6 +86,7 @@ fn end_all<T: Tracer>(
     ensures over { IfOk result (λ ended. ended ≡ true → All (IsOver end) (timed_of cores.new)) }
     ensures illegal { IfOk result (λ ended. ended ≡ false → (most : ℕ) (first : BoundState ShardWorld) (turns : List ℕ) → HaveTaken (time_by_net net.now) program.now end most first turns cores.old port.old → bound_phase shards_serve (time_by_net net.now) program.now end turns first ≡ Err (length turns)) }
     ensures told { IfOk result (λ ended. ended ≡ true → T.steps tracer.new ≡ T.steps tracer.old ++ last_from program.now end 0 (timed_of cores.old)) }
+    ensures fixed { T.fixed tracer.new ≡ T.fixed tracer.old }
     ensures count { length cores.new ≡ length cores.old }
 {
     for (number, core) in cores.iter_mut().enumerate() {
@@ -115,6 +117,7 @@ fn take_turn<T: Tracer>(
     ensures took { IfOk result (λ took. took ≡ true → (e : Entry) × TakesAccess (time_by_net net.now) program.now end (chosen port.old number) port.new core.old core.new e) }
     ensures none { IfOk result (λ took. took ≡ false → TakesNone program.now end (chosen port.old number) port.new core.old core.new) }
     ensures told { IfOk result (λ _. T.steps tracer.new ≡ T.steps tracer.old ++ turn_steps shards_serve leaves_shards program.now end port.old.world number core.old.timed) }
+    ensures fixed { T.fixed tracer.new ≡ T.fixed tracer.old }
 {
     port.choose(number);
     run_alone(program, end, number, core, tracer)?;
@@ -149,6 +152,7 @@ fn take_access<T: Tracer>(
     requires spare { 1 ≤ core.old.spare }
     ensures took { OnOk result ((e : Entry) × TakesAccess (time_by_net net.now) program.now end port.old port.new core.old core.new e) }
     ensures told { OnOk result (T.steps tracer.new ≡ T.steps tracer.old ++ access_step shards_serve leaves_shards program.now end port.old.world core.old.number core.old.timed request ∷ []) }
+    ensures fixed { T.fixed tracer.new ≡ T.fixed tracer.old }
 {
     let pc = core.core().pc();
     let leaving = port.leaving(request);

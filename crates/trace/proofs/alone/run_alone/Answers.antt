@@ -7,30 +7,24 @@ use Rattle.trace.specs.Trace.{Step}
 use Rattle.trace.proofs.AloneTold.{none_alone, still_ran, still_told, stopped_by}
 use Rattle.trace.proofs.alone.run_alone.Goals as goal
 
-pub tell_step-requires-clause-clock : goal.tell_step-requires-clause-clock
-tell_step-requires-clause-clock g c = omega (arith, c.loop-goes_on.invariant.latest, c.requires.clock)
+pub tell_more-requires-clause-clock : goal.tell_more-requires-clause-clock
+tell_more-requires-clause-clock g c = omega (arith, c.loop-goes_on.invariant.latest, c.requires.clock)
 
 pub loop-goes_on-preserved : goal.loop-goes_on-preserved
 loop-goes_on-preserved g c =
     let was = c.loop-goes_on.invariant in
-    let image = c.args.program.now in
-    let core = c.loop-goes_on.core in
-    let next = c.tell_step.new.core in
-    let on = c.in_ok-goes_on.goes_on in
     let did = c.in_ok-goes_on.ensures in
-    let stays : on ≡ false → next.timed ≡ core.timed = λ off. ap (λ (x : NumberedCore). x.timed) (did.stays off) in
-    let told = g.T.Tracer.steps c.loop-goes_on.tracer in
-    let later = g.T.Tracer.steps c.tell_step.new.tracer in
     record {
-      same_end = still_ran image c.args.end c.args.number core.timed next.timed told later on did.goes_on did.next stays ∙ was.same_end;
-      told = still_told image c.args.end c.args.number core.timed next.timed told later on did.goes_on did.next stays did.told ∙ was.told;
-      stopped = stopped_by image c.args.end c.args.number core.timed next.timed told later on did.goes_on stays;
+      same_end = did.same_end ∙ was.same_end;
+      told = did.told ∙ was.told;
+      stopped = did.stopped;
       latest = omega (arith, did.latest, was.latest);
       no_more = omega (arith, did.no_more, was.no_more);
       number_is = did.number ∙ was.number_is;
       memory = did.memory ∙ was.memory;
       fetching = did.fetching ∙ was.fetching;
       spare = did.spare ∙ was.spare;
+      fixed = c.tell_more.ensures.fixed ∙ was.fixed;
     }
 
 pub returns-clause-ran : goal.returns-clause-ran

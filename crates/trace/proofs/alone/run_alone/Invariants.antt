@@ -17,6 +17,7 @@ invariant-loop-goes_on g l = record {
   memory : l.core.timed.core.memory ≡ l.initial.core.timed.core.memory;
   fetching : l.core.timed.core.fetching ≡ l.initial.core.timed.core.fetching;
   spare : l.core.spare ≡ l.initial.core.spare;
+  fixed : g.T.Tracer.fixed l.tracer ≡ g.T.Tracer.fixed l.initial.tracer;
 }
 
 abbrev pub decreases-loop-goes_on : goal.decreases-loop-goes_on

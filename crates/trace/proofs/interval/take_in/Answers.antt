@@ -130,4 +130,4 @@ returns-clause-told g c = λ image s turns h.
     let from : h.before.comps ≡ s.comps = h.goes_on.come.comps in
     let is : interval_of entries c.in_ok-woven.woven ≡ woven_interval machine s.comps entries = weave.is ∙ ap (λ (comps : List Comp). woven_interval machine comps entries) from in
     let before = g.T.Tracer.steps c.args.tracer.now in
-    c.in_ok-tell_end.ensures ∙ ap (λ (i : Interval). before ++ Ended i ∷ []) is
+    c.in_ok-tell_end.ensures.told ∙ ap (λ (i : Interval). before ++ Ended i ∷ []) is

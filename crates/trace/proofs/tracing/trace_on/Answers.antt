@@ -37,6 +37,7 @@ loop-alloc-init g c =
       small = omega arith;
       within = omega arith;
       accesses = omega (arith, accesses);
+      fixed = refl;
     }
 
 pub interval_under-requires-clause-room : goal.interval_under-requires-clause-room
@@ -131,6 +132,7 @@ loop-alloc-preserved g c =
       small = omega (arith, was.small, c.requires.machine.interval);
       within = omega (arith, below);
       accesses = omega (arith, accesses, leads.come.counted.accesses);
+      fixed = c.interval_under.ensures.fixed ∙ was.fixed;
     }
 
 -- the schedule ends, and the run goes on

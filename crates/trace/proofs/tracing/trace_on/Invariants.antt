@@ -14,6 +14,7 @@ invariant-loop-alloc g l = record {
   small : l.end ≤ 10000 * l.k;
   within : l.k ≤ l.machine.intervals;
   accesses : l.run.counters.accesses ≤ 2 ^ 26;
+  fixed : g.T.Tracer.fixed l.tracer ≡ g.T.Tracer.fixed l.initial.tracer;
 }
 
 abbrev pub decreases-loop-alloc : goal.decreases-loop-alloc

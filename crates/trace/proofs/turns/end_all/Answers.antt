@@ -60,6 +60,7 @@ loop-number-preserved g c =
       over = λ i x before found.
           set_cases cores n i core c.take_turn.new.core x here found (λ y. IsOver end y.timed) (λ same. took.over) (λ apart was. c.loop-number.invariant.over i x (omega (arith, before, apart)) was);
       told = ended_told image end cores n core c.take_turn.new.core below here port.world (g.T.Tracer.steps c.loop-number.tracer) (g.T.Tracer.steps c.take_turn.new.tracer) took.ends.asked c.in_ok-took.ensures.told ∙ c.loop-number.invariant.told;
+      fixed = c.take_turn.ensures.fixed ∙ c.loop-number.invariant.fixed;
     }
 
 pub returns-then-took-clause-illegal : goal.returns-then-took-clause-illegal

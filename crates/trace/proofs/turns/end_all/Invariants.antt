@@ -16,4 +16,5 @@ invariant-loop-number g l = record {
       → HaveTaken (time_by_net l.net) l.program l.end most first turns l.cores l.port;
   over : (i : ℕ) (c : NumberedCore) → i < l.number → slice_get l.cores i ≡ Some c → IsOver l.end c.timed;
   told : g.T.Tracer.steps l.tracer ++ last_from l.program l.end l.number (drop l.number (timed_of l.cores)) ≡ g.T.Tracer.steps l.initial.tracer ++ last_from l.program l.end 0 (timed_of l.initial.cores);
+  fixed : g.T.Tracer.fixed l.tracer ≡ g.T.Tracer.fixed l.initial.tracer;
 }

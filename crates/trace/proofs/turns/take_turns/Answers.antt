@@ -101,6 +101,7 @@ loop-place-preserved g c =
           ∙ c.loop-place.invariant.told (n ∷ rest)
           ∙ ap (λ (ns : List ℕ). g.T.Tracer.steps c.args.tracer.now ++ phase_steps shards_serve leaves_shards image end time ns first) list;
       count = length-set cores n after ∙ c.loop-place.invariant.count;
+      fixed = c.take_turn.ensures.fixed ∙ c.loop-place.invariant.fixed;
     }
 
 pub returns-then-not-took-clause-illegal : goal.returns-then-not-took-clause-illegal

@@ -14,4 +14,5 @@ invariant-loop-place g l = record {
   told : (rest : List ℕ) → g.T.Tracer.steps l.tracer ++ phase_steps shards_serve leaves_shards l.program l.end (time_by_net l.net) rest (phase_of l.cores l.port)
       ≡ g.T.Tracer.steps l.initial.tracer ++ phase_steps shards_serve leaves_shards l.program l.end (time_by_net l.net) (take l.place l.turns ++ rest) (phase_of l.initial.cores l.initial.port);
   count : length l.cores ≡ length l.initial.cores;
+  fixed : g.T.Tracer.fixed l.tracer ≡ g.T.Tracer.fixed l.initial.tracer;
 }
