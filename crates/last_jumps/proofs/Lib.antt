@@ -1,0 +1,3 @@
+pub mod LastOf
+pub mod OneMore
+pub mod StepsMore

@@ -1,0 +1,11 @@
+use Rattle.std.proofs.Common.{List, subst, sym}
+use Rattle.trace.specs.Trace.{Step}
+use Rattle.last_jumps.specs.Kept.{AreKept}
+use Rattle.last_jumps.proofs.StepsMore.{kept_executed}
+use Rattle.last_jumps.proofs.last_jumps.LastJumpsTracer.executed.Goals as goal
+
+pub invariant_of-self-2 : goal.invariant_of-self-2
+invariant_of-self-2 c =
+    let new = c.execute.new.cores.items in
+    subst (λ (all : List Step). AreKept all new) (sym c.then_executed-self-inside.ensures)
+    (kept_executed c.self.inside.told.steps c.self.inside.cores.items new c.args.core c.args.pc c.self.invariant c.in_ok-execute.ensures.ok)

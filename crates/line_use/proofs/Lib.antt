@@ -1,0 +1,3 @@
+pub mod Adding
+pub mod Bits
+pub mod StepsMore
