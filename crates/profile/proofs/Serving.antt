@@ -48,7 +48,7 @@ let_go event queues new makers have step core = step core ∙ by event.critical 
 
 module _ (event : Event) (fired : Fired) (old new : Parts) (first : Option Maker)
     (first_found : first ≡ head (queue_at old.makers.items event.core))
-    (given : (cs : List Contribution) → AreRows cs old.rows.addresses.items old.rows.lines → AreRows (cs ++ map wait_adds (wait_for first event fired)) new.rows.addresses.items new.rows.lines)
+    (given : (cs : List Contribution) → AreRows cs old.rows.addresses.items old.rows.lines.items → AreRows (cs ++ map wait_adds (wait_for first event fired)) new.rows.addresses.items new.rows.lines.items)
     (gone : (c : ℕ) → queue_at new.makers.items c ≡ (if event.critical && event.core == c then tail (queue_at old.makers.items c) else queue_at old.makers.items c)) where
   pub serving_more : (whole : List Contribution) (left : List (Event × Fired)) → IsServing whole ((event, fired) ∷ left) old → IsServing whole left new
   serving_more whole left s =
@@ -59,7 +59,7 @@ module _ (event : Event) (fired : Fired) (old new : Parts) (first : Option Maker
         makers = after;
         cs = s.cs ++ map wait_adds waits;
         queues = let_go event old.makers.items new.makers.items s.makers s.queues gone;
-        rows = subst (λ (f : Option Maker). AreRows (s.cs ++ map wait_adds (wait_for f event fired)) new.rows.addresses.items new.rows.lines) is_first (given s.cs s.rows);
+        rows = subst (λ (f : Option Maker). AreRows (s.cs ++ map wait_adds (wait_for f event fired)) new.rows.addresses.items new.rows.lines.items) is_first (given s.cs s.rows);
         is = append_assoc s.cs (map wait_adds waits) (map wait_adds (event_waits after left)) ∙ ap (λ (cs : List Contribution). s.cs ++ cs) (sym (map-append wait_adds waits (event_waits after left))) ∙ s.is;
       }
 
@@ -82,7 +82,7 @@ no_more (x ∷ events) [] (suc n) le = refl
 no_more (x ∷ events) (y ∷ fired) zero le = absurd (omega (arith, le))
 no_more (x ∷ events) (y ∷ fired) (suc n) le = no_more events fired n (omega (arith, le))
 
-pub all_served : (whole : List Contribution) (left : List (Event × Fired)) (p : Parts) → left ≡ [] → IsServing whole left p → AreRows whole p.rows.addresses.items p.rows.lines
+pub all_served : (whole : List Contribution) (left : List (Event × Fired)) (p : Parts) → left ≡ [] → IsServing whole left p → AreRows whole p.rows.addresses.items p.rows.lines.items
 all_served whole left p none s =
-    subst (λ (cs : List Contribution). AreRows cs p.rows.addresses.items p.rows.lines)
+    subst (λ (cs : List Contribution). AreRows cs p.rows.addresses.items p.rows.lines.items)
     (sym (append-nil s.cs) ∙ ap (λ (l : List (Event × Fired)). s.cs ++ map wait_adds (event_waits s.makers l)) (sym none) ∙ s.is) s.rows

@@ -1,6 +1,6 @@
--- What each step of a run adds to a profile, of which the rows are sums: by core and address, by line and by interval.
-use Rattle.std.specs.Prelude.{ℕ, ◌==◌, Bool, ◌&&◌, List, [], ◌∷◌, ◌++◌, map}
-use Rattle.std.specs.List.{filter, zip}
+-- What each step of a run adds to a profile, of which the rows are sums: by core and address, and by core and line.
+use Rattle.std.specs.Prelude.{ℕ, ◌==◌, Bool, ◌&&◌, ◌||◌, List, [], ◌∷◌, ◌++◌, map, if◌then◌else◌, None, Some}
+use Rattle.std.specs.List.{filter, range_with_len, zip}
 use Rattle.zs_num.specs.declared.entry.Entry.{Entry}
 use Rattle.zs_num.specs.Request.{is_fetch, line_of}
 use Rattle.stats.specs.Counted.{is_atomic, is_hit, is_l2hit, is_load, is_miss, is_store, is_upgrade, one_if}
@@ -9,9 +9,9 @@ use Rattle.profile.specs.declared.copies.CopyState.{CopyState}
 use Rattle.profile.specs.declared.copies.Leave.TheVariants.{Coherence, Inclusion, Eviction}
 use Rattle.profile.specs.declared.contribution.Contribution.{Contribution}
 use Rattle.profile.specs.declared.contribution.Maker.{Maker}
-use Rattle.profile.specs.declared.tally.Tally.{Tally}
-use Rattle.profile.specs.Copies.{Copies, copies_after, downgrades, finds_none, invalidates, is_cold, is_gone_by, no_copies, own_copy, taken_away}
-use Rattle.profile.specs.Tallies.{no_tally, total}
+use Rattle.profile_rows.specs.declared.tally.Tally.{Tally}
+use Rattle.profile.specs.Copies.{Copies, copies_after, downgrades, finds_none, has_other, invalidates, is_cold, is_gone_by, is_this, no_copies, own_copy, taken_away}
+use Rattle.profile_rows.specs.Tallies.{no_tally, total}
 use Rattle.profile.specs.Waits.{Wait, event_waits, makers_of}
 
 -- what the steps before leave: the accesses of the interval that made events, and what there is of all copies
@@ -40,15 +40,35 @@ access_tally e copy taken cycles = record {
   invalidating = one_if (invalidates e);
   invalidated = taken;
   downgrades = one_if (downgrades e);
+  lost = 0;
+  lowered = 0;
   cycles = cycles;
+  missing = if is_hit e.outcome then 0 else cycles;
   waited = 0;
 }
+
+-- what a core suffers by an access that takes its copy away, or that has it downgraded
+unfoldable pub suffered_tally : Entry → Tally
+suffered_tally e = record no_tally { lost = one_if (invalidates e); lowered = one_if (downgrades e) }
+
+abbrev pub suffers : Entry → (other : ℕ) → Contribution
+suffers e other = record {
+  core = other;
+  pc = None;
+  line = line_of e.request;
+  tally = suffered_tally e;
+}
+
+-- the other cores, of so many, whose copies it takes away or has downgraded
+abbrev pub suffering : (cores : ℕ) → Copies → Entry → List ℕ
+suffering cores copies e =
+    if invalidates e || downgrades e then filter (has_other copies e.core (line_of e.request)) (range_with_len 0 cores) else []
 
 -- what a wait of an event adds
 abbrev pub wait_adds : Wait → Contribution
 wait_adds w = record {
   core = w.maker.core;
-  pc = w.maker.pc;
+  pc = Some w.maker.pc;
   line = w.maker.line;
   tally = record no_tally { waited = w.cycles };
 }
@@ -58,7 +78,7 @@ module _ (time : Entry → ℕ) (cores : ℕ) where
   abbrev pub access_adds : Copies → (pc : ℕ) → Entry → Contribution
   access_adds copies pc e = record {
     core = e.core;
-    pc = pc;
+    pc = Some pc;
     line = line_of e.request;
     tally = access_tally e (own_copy copies e) (taken_away cores copies e) (time e);
   }
@@ -66,7 +86,7 @@ module _ (time : Entry → ℕ) (cores : ℕ) where
   -- what a step adds; an instruction is counted apart
   abbrev pub step_adds : Before → Step → List Contribution
   step_adds before (Executed core pc) = []
-  step_adds before (Accessed pc e leaving) = access_adds before.copies pc e ∷ []
+  step_adds before (Accessed pc e leaving) = access_adds before.copies pc e ∷ map (suffers e) (suffering cores before.copies e)
   step_adds before (Ended interval) = map wait_adds (event_waits before.makers (zip interval.events interval.fired))
 
 -- what there is after a step
@@ -98,15 +118,15 @@ abbrev pub tally_of : (Contribution → Bool) → List Contribution → Tally
 tally_of test cs = total (map (λ c. c.tally) (filter test cs))
 
 abbrev pub is_at : (core pc : ℕ) → Contribution → Bool
-is_at core pc c = c.core == core && c.pc == pc
+is_at core pc c = c.core == core && is_this c.pc pc
 
-abbrev pub is_to : (line : ℕ) → Contribution → Bool
-is_to line c = c.line == line
+abbrev pub is_to : (core line : ℕ) → Contribution → Bool
+is_to core line c = c.core == core && c.line == line
 
 -- what was added to an instruction of a core
 abbrev pub at_address : (core pc : ℕ) → List Contribution → Tally
 at_address core pc cs = tally_of (is_at core pc) cs
 
--- and to a line
-abbrev pub at_line : (line : ℕ) → List Contribution → Tally
-at_line line cs = tally_of (is_to line) cs
+-- and to a line of a core
+abbrev pub at_line : (core line : ℕ) → List Contribution → Tally
+at_line core line cs = tally_of (is_to core line) cs

@@ -5,7 +5,7 @@ use Rattle.profile.specs.declared.copies.CopyState.{CopyState}
 use Rattle.profile.specs.declared.copies.CopyState.TheVariants.{Never}
 use Rattle.profile.specs.declared.copies.Leave.{Leave}
 use Rattle.profile.specs.Copies.{Copies, left}
-use Rattle.profile.specs.Tables.{value_at}
+use Rattle.sparse_table.specs.ByCore.{value_at}
 
 -- the copies of data and of instructions
 abbrev pub copies_in : (of_data of_instructions : List (Sparse CopyState)) → Copies

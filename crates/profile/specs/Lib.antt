@@ -3,10 +3,11 @@ pub mod Copies
 pub mod CopyTables
 pub mod Executed
 pub mod Intervals
+pub mod Laws
+pub mod Listed
 pub mod Makers
 pub mod Parts
 pub mod Profiled
 pub mod Rows
-pub mod Tables
-pub mod Tallies
+pub mod Series
 pub mod Waits

@@ -17,12 +17,12 @@ use Rattle.profile.specs.Waits.{event_waits}
 pub record AreParts (time : Entry → ℕ) (cores : ℕ) (steps : List Step) (p : Parts) : Type 0 where
   pub copies : copies_in p.copies.of_data.items p.copies.of_instructions.items ≡ (after_steps nothing_before steps).copies
   pub makers : HaveMakers p.makers.items (after_steps nothing_before steps).makers
-  pub rows : AreRows (contributions time cores steps) p.rows.addresses.items p.rows.lines
+  pub rows : AreRows (contributions time cores steps) p.rows.addresses.items p.rows.lines.items
 
 -- With the waits of these events that are left, all that was added is `whole`.
 pub record IsServing (whole : List Contribution) (left : List (Event × Fired)) (p : Parts) : Type 0 where
   pub makers : List Maker
   pub cs : List Contribution
   pub queues : HaveMakers p.makers.items makers
-  pub rows : AreRows cs p.rows.addresses.items p.rows.lines
+  pub rows : AreRows cs p.rows.addresses.items p.rows.lines.items
   pub is : cs ++ map wait_adds (event_waits makers left) ≡ whole

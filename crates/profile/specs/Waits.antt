@@ -9,9 +9,10 @@ use Rattle.event_graph.specs.declared.fired.Fired.{Fired}
 use Rattle.stats.specs.Counted.{is_hit, wait_of}
 use Rattle.profile.specs.declared.contribution.Maker.{Maker}
 
--- an event waited so many cycles for this access
+-- an event that this component served waited so many cycles, for this access
 pub record Wait : Type 0 where
   pub maker : Maker
+  pub component : ℕ
   pub cycles : ℕ
 
 -- the access, where it makes events: a hit makes none
@@ -30,7 +31,7 @@ without_first core (m ∷ makers) = if m.core == core then makers else m ∷ wit
 -- the wait of an event for this access, if there is one
 abbrev pub wait_for : Option Maker → Event → Fired → List Wait
 wait_for None e f = []
-wait_for (Some m) e f = record { maker = m; cycles = wait_of e f } ∷ []
+wait_for (Some m) e f = record { maker = m; component = e.component; cycles = wait_of e f } ∷ []
 
 -- The waits of an interval's events, which these accesses made that are in order of each core. The events of a core are
 -- those of its accesses in order, and the last one of each access is critical.

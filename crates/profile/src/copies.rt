@@ -4,11 +4,11 @@ ghost use Rattle.std.specs.List.{range_with_len};
 ghost use Rattle.zs_num.specs.Request.{is_fetch, line_of};
 ghost use Rattle.profile.specs.Copies.{changes_others, copy_after, has_other, invalidates, is_held, is_of, is_others, is_this, left, left_l2, made_room, no_copies, reads, taken_away, when_taken, when_used, writes, downgrades, own_copy};
 ghost use Rattle.profile.specs.CopyTables.{all_left, copies_in, is_spared, one_left};
-ghost use Rattle.profile.specs.Tables.{value_at};
+ghost use Rattle.sparse_table.specs.ByCore.{value_at};
 
-use crate::tables::{set_at, set_there, value_at};
 use shard::Leaving;
 use sparse_table::SparseTable;
+use sparse_table::by_core::{set_at, set_there, value_at};
 use std::alloc::Global;
 use zs_num::{Entry, NoMemory, Outcome, Request};
 
@@ -207,8 +207,24 @@ impl Copies {
         Ok(())
     }
 
-    /// A core has a line.
+    /// A core has a line. It mostly has it already, and then nothing is written.
     fn hold(&mut self, alloc: Global, fetching: bool, core: u16, line: u64) -> Result<(), NoMemory>
+        ensures { OnOk result ((f : Bool) (c n : ℕ) → copies_in self.new.of_data.items self.new.of_instructions.items f c n ≡ when_used (is_of fetching core f c) (line == n) (copies_in self.old.of_data.items self.old.of_instructions.items f c n)) }
+    {
+        if self.copy(fetching, core, line).is_held() {
+            return Ok(());
+        }
+        self.take_in(alloc, fetching, core, line)
+    }
+
+    /// A core takes a line in.
+    fn take_in(
+        &mut self,
+        alloc: Global,
+        fetching: bool,
+        core: u16,
+        line: u64,
+    ) -> Result<(), NoMemory>
         ensures { OnOk result ((f : Bool) (c n : ℕ) → copies_in self.new.of_data.items self.new.of_instructions.items f c n ≡ when_used (is_of fetching core f c) (line == n) (copies_in self.old.of_data.items self.old.of_instructions.items f c n)) }
     {
         if fetching {
@@ -309,7 +325,12 @@ pub(crate) fn others(of_data: &Vec<SparseTable<CopyState>>, cores: u16, core: u1
     count
 }
 
-fn is_other(of_data: &Vec<SparseTable<CopyState>>, core: u16, line: u64, other: u16) -> bool
+pub(crate) fn is_other(
+    of_data: &Vec<SparseTable<CopyState>>,
+    core: u16,
+    line: u64,
+    other: u16,
+) -> bool
     ensures { result ≡ has_other (copies_in of_data.now.items []) core line other }
 {
     core != other && value_at(of_data, CopyState::Never, other, line).is_held()

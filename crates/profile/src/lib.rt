@@ -1,20 +1,21 @@
-//! What the steps of a run add up to: by the address of the instruction, by line and by interval.
+//! What the steps of a run add up to: by core and address of the instruction, by core and line, and by interval.
 #![tactic(auto)]
 
+mod address_rows;
 mod contribution;
 mod copies;
-mod interval_row;
+pub mod laws;
+mod line_rows;
 mod makers;
 mod met;
 mod parts;
 mod profile;
 mod rows;
-mod tables;
-mod tally;
-mod told;
+mod series;
+mod something;
+mod suffered;
 
 pub use contribution::{Contribution, Maker};
 pub use copies::{CopyState, Leave};
-pub use interval_row::IntervalRow;
 pub use profile::Profile;
-pub use tally::Tally;
+pub use series::OpenInterval;

@@ -1,16 +1,16 @@
 //! What an access counts.
-ghost use Rattle.std.specs.Prelude.{◌≡◌};
+ghost use Rattle.std.specs.Prelude.{◌≡◌, ℕ};
 ghost use Rattle.noc_mesh.specs.NetTiming.{net_time};
 ghost use Rattle.stats.specs.Counted.{is_atomic, is_hit, is_l2hit, is_load, is_miss, is_store, is_upgrade, one_if};
-ghost use Rattle.profile.specs.Copies.{finds_none, is_cold, is_gone_by};
+ghost use Rattle.profile.specs.Copies.{finds_none, is_cold, is_gone_by, own_copy};
 ghost use Rattle.profile.specs.CopyTables.{copies_in};
 ghost use Rattle.profile.specs.Contributions.{access_adds, access_tally};
 
 use crate::contribution::Contribution;
 use crate::copies::{Copies, CopyState, Leave, downgrades, invalidates};
-use crate::tally::Tally;
 use event_graph::Expand;
 use noc_mesh::Net;
+use profile_rows::Tally;
 use zs_num::{Entry, Outcome, Request};
 
 /// What an access of the instruction at `pc` adds, on a machine of so many cores whose accesses
@@ -24,14 +24,26 @@ pub(crate) fn access_adds(
 ) -> Contribution
     ensures { result ≡ access_adds (net_time net.now.path) cores (copies_in copies.now.of_data.items copies.now.of_instructions.items) pc entry.now }
 {
-    let copy = copies.own(entry);
+    let copy = copy_met(copies, entry);
     let taken = copies.taken_away(cores, entry);
     let cycles = net.time(entry);
     Contribution {
         core: entry.core,
-        pc,
+        pc: Some(pc),
         line: entry.request.line(),
         tally: access_tally(entry, copy, taken, cycles),
+    }
+}
+
+/// What there is of the own copy, where the access found none. Of an access that found one nothing is
+/// counted by it, so it is not looked for.
+fn copy_met(copies: &Copies, entry: &Entry) -> CopyState
+    ensures { (taken cycles : ℕ) → access_tally entry.now result taken cycles ≡ access_tally entry.now (own_copy (copies_in copies.now.of_data.items copies.now.of_instructions.items) entry.now) taken cycles }
+{
+    if finds_none(&entry.outcome) {
+        copies.own(entry)
+    } else {
+        CopyState::Never
     }
 }
 
@@ -58,13 +70,16 @@ fn access_tally(entry: &Entry, copy: CopyState, taken: u64, cycles: u64) -> Tall
         invalidating: one_if(invalidates(entry)),
         invalidated: taken,
         downgrades: one_if(downgrades(entry)),
+        lost: 0,
+        lowered: 0,
         cycles,
+        missing: if is_hit(&entry.outcome) { 0 } else { cycles },
         waited: 0,
     }
 }
 
 /// One, where the test holds.
-fn one_if(test: bool) -> u64
+pub(crate) fn one_if(test: bool) -> u64
     ensures { result ≡ one_if test }
 {
     if test { 1 } else { 0 }

@@ -1,5 +1,5 @@
 //! The parts of a profile that accesses and their events change.
-ghost use Rattle.std.specs.Prelude.{◌≡◌, ◌==◌, ◌&&◌, ◌++◌, ◌∷◌, [], ℕ, List, OnOk, if◌then◌else◌, map};
+ghost use Rattle.std.specs.Prelude.{◌≡◌, ◌==◌, ◌&&◌, ◌++◌, ◌∷◌, [], ℕ, List, IfOk, OnOk, if◌then◌else◌, map};
 ghost use Rattle.zs_num.specs.declared.entry.Entry.{Entry};
 ghost use Rattle.event_graph.specs.declared.event.Event.{Event};
 ghost use Rattle.event_graph.specs.declared.fired.Fired.{Fired};
@@ -7,7 +7,8 @@ ghost use Rattle.noc_mesh.specs.NetTiming.{net_time};
 ghost use Rattle.stats.specs.Counted.{wait_of};
 ghost use Rattle.trace.specs.Trace.{Accessed, Ended, Step};
 ghost use Rattle.profile.specs.declared.contribution.Contribution.{Contribution};
-ghost use Rattle.profile.specs.Contributions.{wait_adds};
+ghost use Rattle.profile.specs.Contributions.{access_adds, wait_adds};
+ghost use Rattle.profile.specs.CopyTables.{copies_in};
 ghost use Rattle.profile.specs.Makers.{of_core, queue_at, tail};
 ghost use Rattle.profile.specs.Parts.{AreParts, IsServing};
 ghost use Rattle.profile.specs.Waits.{makers_of, wait_for};
@@ -18,9 +19,11 @@ use crate::copies::Copies;
 use crate::makers::{Queue, clear, first_of, put, take_first};
 use crate::met::{access_adds, is_hit};
 use crate::rows::Rows;
-use crate::tally::{NONE, Tally};
-use event_graph::{Event, Fired, FiredList, Graph};
+use crate::series::wait_of;
+use crate::suffered::add_suffered;
+use event_graph::{Event, Fired};
 use noc_mesh::Net;
+use profile_rows::{NONE, Tally};
 use shard::Leaving;
 use std::alloc::Global;
 use zs_num::{Entry, NoMemory};
@@ -45,7 +48,7 @@ impl Parts {
         }
     }
 
-    /// An access, for which these lines left.
+    /// An access, for which these lines left. Answers what it counts.
     pub(crate) fn access(
         &mut self,
         alloc: Global,
@@ -54,14 +57,16 @@ impl Parts {
         pc: u64,
         entry: &Entry,
         leaving: &Leaving,
-    ) -> Result<(), NoMemory>
-        ensures { OnOk result ((steps : List Step) → AreParts (net_time net.now.path) cores steps self.old → AreParts (net_time net.now.path) cores (steps ++ Accessed pc entry.now leaving.now ∷ []) self.new) }
+    ) -> Result<Tally, NoMemory>
+        ensures parts { OnOk result ((steps : List Step) → AreParts (net_time net.now.path) cores steps self.old → AreParts (net_time net.now.path) cores (steps ++ Accessed pc entry.now leaving.now ∷ []) self.new) }
+        ensures tally { IfOk result (λ tally. tally ≡ (access_adds (net_time net.now.path) cores (copies_in self.old.copies.of_data.items self.old.copies.of_instructions.items) pc entry.now).tally) }
     {
         let adds = access_adds(net, cores, &self.copies, pc, entry);
         self.rows.add(alloc, &adds)?;
+        add_suffered(alloc, &mut self.rows, cores, &self.copies, entry)?;
         self.copies.pass(alloc, entry, leaving)?;
         put_maker(alloc, &mut self.makers, pc, entry)?;
-        Ok(())
+        Ok(adds.tally)
     }
 
     /// The end of an interval, of which these are the events and when they fired.
@@ -101,7 +106,7 @@ fn give(
     event: &Event,
     fired: &Fired,
 ) -> Result<(), NoMemory>
-    ensures { OnOk result ((cs : List Contribution) → AreRows cs rows.old.addresses.items rows.old.lines → AreRows (cs ++ map wait_adds (wait_for first event.now fired.now)) rows.new.addresses.items rows.new.lines) }
+    ensures { OnOk result ((cs : List Contribution) → AreRows cs rows.old.addresses.items rows.old.lines.items → AreRows (cs ++ map wait_adds (wait_for first event.now fired.now)) rows.new.addresses.items rows.new.lines.items) }
 {
     if let Some(maker) = first {
         rows.add(alloc, &wait_adds(&maker, event, fired))?;
@@ -120,16 +125,16 @@ fn let_go(makers: &mut Vec<Queue>, event: &Event)
 
 /// What the wait of an event adds to the access that made it.
 fn wait_adds(maker: &Maker, event: &Event, fired: &Fired) -> Contribution
-    ensures { result ≡ wait_adds (record { maker = maker.now; cycles = wait_of event.now fired.now }) }
+    ensures { result ≡ wait_adds (record { maker = maker.now; component = event.now.component; cycles = wait_of event.now fired.now }) }
 {
-    let took = fired.finish.saturating_sub(fired.start);
-    let least = event.min_finish.saturating_sub(event.min_start);
-    let waited = took.saturating_sub(least);
     Contribution {
         core: maker.core,
-        pc: maker.pc,
+        pc: Some(maker.pc),
         line: maker.line,
-        tally: Tally { waited, ..NONE },
+        tally: Tally {
+            waited: u128::from(wait_of(event, fired)),
+            ..NONE
+        },
     }
 }
 

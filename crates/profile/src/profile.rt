@@ -1,27 +1,29 @@
 //! The profile of a run.
-ghost use Rattle.std.specs.Prelude.{◌≡◌, ◌<◌, ◌++◌, ◌∷◌, [], ℕ, List, OnOk, Some, length, slice_get};
+ghost use Rattle.std.specs.Prelude.{◌≡◌, ◌≤◌, ◌^◌, ◌++◌, ◌∷◌, [], ℕ, All, List, OnOk, false, length};
 ghost use Rattle.trace.specs.Trace.{Accessed, Ended, Executed, Step};
 ghost use Rattle.profile.specs.Executed.{executed_at};
-ghost use Rattle.noc_mesh.specs.NetTiming.{net_time};
-ghost use Rattle.profile.specs.Contributions.{at_address, at_line, contributions};
-ghost use Rattle.profile.specs.Rows.{IsNextLine};
-ghost use Rattle.zs_num.specs.declared.entry.Entry.{Entry};
-ghost use Rattle.profile.specs.Intervals.{ended_in, row_of, rows_of};
+ghost use Rattle.profile.specs.Contributions.{at_address, at_line};
+ghost use Rattle.profile.specs.Profiled.{added_in, has_address, series_in};
+ghost use Rattle.profile.specs.Rows.{IsCandidate, IsNext, has_line};
 ghost use Rattle.profile.specs.Parts.{AreParts};
-ghost use Rattle.profile.specs.Tallies.{capped, capped_tally};
+ghost use Rattle.profile.specs.Series.{AreSeries, IsSeries, Series, nothing_open, with_interval, with_last, with_room};
+ghost use Rattle.zs_num.specs.declared.entry.Entry.{Entry};
+ghost use Rattle.profile_rows.specs.Tallies.{capped, capped_tally};
 
-use crate::interval_row::{IntervalRow, all_waits};
 use crate::parts::Parts;
-use crate::tables::{set_at, value_at};
-use crate::tally::{NONE, Tally};
-use crate::told::Told;
+use crate::series::SeriesRows;
+use crate::something::is_something;
 use event_graph::{Event, Fired, FiredList, Graph};
+use execution_counts::ExecutionCounts;
 use noc_mesh::Net;
+use profile_rows::{NONE, SeriesRow, Tally};
 use shard::Leaving;
-use sparse_table::SparseTable;
+use sparse_table::by_core::{next_set, value_at};
+use sparse_table::earlier;
 use std::alloc::Global;
 use std::marker::Model;
 use trace::Tracer;
+use tracers::Told;
 use zs_num::{Entries, Entry, NoMemory};
 
 /// The profile of the steps that it was told. Where memory ran out, it begins anew.
@@ -31,93 +33,158 @@ pub struct Profile {
     told: Told,
     net: Net,
     cores: u16,
+    comps: usize,
+    every: u32,
     /// How often the instruction at each address was executed, by core.
-    instructions: Vec<SparseTable<u64>>,
+    instructions: ExecutionCounts,
     parts: Parts,
-    intervals: Vec<IntervalRow>,
+    series: SeriesRows,
 }
 
 impl Model for Profile {
-    ghost use Rattle.noc_mesh.specs.NetTiming.{net_time};
     ghost use Rattle.profile.specs.Profiled.{IsRight, Profiled};
 
     ghost Value = { Profiled };
 
-    ghost view = { λ p. record { steps = p.told.steps; path = p.net.path; cores = p.cores } };
+    ghost view = { λ p. record { steps = p.told.steps; path = p.net.path; cores = p.cores; comps = p.comps; every = p.every } };
 
-    ghost invariant = { λ p. IsRight (net_time p.net.path) p.cores p.told.steps p.instructions.items p.parts p.intervals.items };
+    ghost invariant = { λ p. IsRight (record { steps = p.told.steps; path = p.net.path; cores = p.cores; comps = p.comps; every = p.every }) p.instructions p.parts p.series };
 }
 
 impl Profile {
-    /// The profile of no steps, of a machine with so many cores, whose accesses take the time of
-    /// this net.
-    pub fn new(alloc: Global, net: Net, cores: u16) -> Self
-        ensures { result ≡ record { steps = []; path = net.path; cores = cores } }
+    /// The profile of no steps, of a machine with so many cores and components, whose accesses take
+    /// the time of this net. A row of its series has `every` intervals, and one where `every` is 0.
+    pub fn new(alloc: Global, net: Net, cores: u16, comps: usize, every: u32) -> Self
+        ensures { result ≡ record { steps = []; path = net.path; cores = cores; comps = comps; every = every } }
     {
         Profile {
             alloc,
             told: Told::new(),
             net,
             cores,
-            instructions: Vec::new(alloc),
+            comps,
+            every,
+            instructions: ExecutionCounts::new(alloc),
             parts: Parts::new(alloc),
-            intervals: Vec::new(alloc),
+            series: SeriesRows::new(alloc),
         }
+    }
+
+    /// How many cores the machine has.
+    pub fn cores(&self) -> u16
+        ensures { result ≡ self.now.cores }
+    {
+        self.cores
     }
 
     /// How often a core executed the instruction at an address.
     pub fn instructions(&self, core: u16, pc: u64) -> u64
         ensures { result ≡ capped (executed_at core pc self.now.steps) }
     {
-        value_at(&self.instructions, 0, core, pc)
+        self.instructions.get(core, pc)
     }
 
     /// What the accesses of a core's instruction at an address count, and how long they waited.
     pub fn accesses(&self, core: u16, pc: u64) -> Tally
-        ensures { result ≡ capped_tally (at_address core pc (contributions (net_time self.now.path) self.now.cores self.now.steps)) }
+        ensures { result ≡ capped_tally (at_address core pc (added_in self.now)) }
     {
         value_at(&self.parts.rows.addresses, NONE, core, pc)
     }
 
-    /// What the accesses to a line count, and how long they waited.
-    pub fn line(&self, line: u64) -> Tally
-        ensures { result ≡ capped_tally (at_line line (contributions (net_time self.now.path) self.now.cores self.now.steps)) }
+    /// What a core's accesses to a line count, how long they waited, and what the core suffered there
+    /// by those of others.
+    pub fn line(&self, core: u16, line: u64) -> Tally
+        ensures { result ≡ capped_tally (at_line core line (added_in self.now)) }
     {
-        self.parts.rows.lines.get(line)
+        value_at(&self.parts.rows.lines, NONE, core, line)
     }
 
-    /// How many intervals ended.
-    pub fn intervals(&self) -> usize
-        ensures { result ≡ length (ended_in self.now.steps) }
+    /// The next line, from this one on, to which something was added of a core.
+    pub fn next_line(&self, core: u16, from: u64) -> Option<u64>
+        ensures { IsNext (has_line (added_in self.now) core) from result }
     {
-        self.intervals.len()
+        self.parts.rows.next_line(core, from)
     }
 
-    /// What is counted of an interval that ended.
-    pub fn interval(&self, k: usize) -> IntervalRow
-        requires { k < length (ended_in self.now.steps) }
-        ensures { slice_get (rows_of self.now.steps) k ≡ Some result }
+    /// The next address, from this one on, at which a core executed an instruction, or one of which
+    /// accesses count something.
+    pub fn next_address(&self, core: u16, from: u64) -> Option<u64>
+        ensures { IsNext (has_address self.now core) from result }
     {
-        self.intervals[k]
+        let mut at = from;
+        while let Some(pc) = self.next_place(core, at) {
+            if self.has_address(core, pc) {
+                return Some(pc);
+            }
+            if pc == u64::MAX {
+                return None;
+            }
+            at = pc + 1;
+        }
+        None
     }
 
-    /// The next line, from this one on, to which something was added.
-    pub fn next_line(&self, from: u64) -> Option<u64>
-        ensures { IsNextLine from (contributions (net_time self.now.path) self.now.cores self.now.steps) result }
+    /// The next address, from this one on, at which a table of the core has a value.
+    fn next_place(&self, core: u16, from: u64) -> Option<u64>
+        ensures next { IsCandidate (has_address self.now core) from result }
+        ensures last { (n : ℕ) → 2 ^ 64 ≤ n → has_address self.now core n ≡ false }
     {
-        self.parts.rows.next_line(from)
+        let executed = self.instructions.next(core, from);
+        let accessed = next_set(&self.parts.rows.addresses, core, from);
+        earlier(executed, accessed)
+    }
+
+    /// Whether a core executed the instruction at an address, or something was added to it.
+    fn has_address(&self, core: u16, pc: u64) -> bool
+        ensures { result ≡ has_address self.now core pc }
+    {
+        self.instructions.get(core, pc) != 0
+            || is_something(&value_at(&self.parts.rows.addresses, NONE, core, pc))
+    }
+
+    /// The rows of the intervals that ended, in order: `every` intervals each, the last one maybe
+    /// fewer.
+    pub fn series(&self) -> &[SeriesRow]
+        ensures rows { AreSeries (series_in self.now).rows result.now }
+        ensures waits { All (λ row. length row.waits.items ≡ self.now.comps) result.now }
+    {
+        &self.series.rows
     }
 }
 
 impl Tracer for Profile {
+    ghost use Rattle.profile.specs.Profiled.{Profiled};
+
     ghost steps = { λ p. p.steps };
+
+    ghost Fixed = { Profiled };
+
+    ghost fixed = { λ p. record p { steps = [] } };
 
     #[inline(always)]
     fn executed(&mut self, core: u16, pc: u64) -> Result<(), NoMemory> {
-        let count = value_at(&self.instructions, 0, core, pc).saturating_add(1);
-        set_at(self.alloc, &mut self.instructions, 0, core, pc, count)?;
+        self.instructions.add(core, pc)?;
+        self.series.executed(1);
         self.told = self.told.then_executed(&core, &pc);
         Ok(())
+    }
+
+    #[inline(always)]
+    fn executed_all(&mut self, core: u16, pc: u64, count: u64) -> Result<(), NoMemory> {
+        match self.instructions.add_stretch(core, pc, count) {
+            Ok(()) => {
+                self.series.executed(count);
+                self.told = self.told.then_executed_all(&core, &pc, &count);
+                Ok(())
+            }
+            Err(no_memory) => {
+                self.told = Told::new();
+                self.instructions = ExecutionCounts::new(self.alloc);
+                self.parts = Parts::new(self.alloc);
+                self.series = SeriesRows::new(self.alloc);
+                Err(no_memory)
+            }
+        }
     }
 
     fn accessed(&mut self, pc: u64, entry: &Entry, leaving: Leaving) -> Result<(), NoMemory> {
@@ -125,15 +192,16 @@ impl Tracer for Profile {
             .parts
             .access(self.alloc, &self.net, self.cores, pc, entry, &leaving);
         match passed {
-            Ok(()) => {
+            Ok(tally) => {
+                self.series.accessed(&tally);
                 self.told = self.told.then_accessed(&pc, entry, &leaving);
                 Ok(())
             }
             Err(no_memory) => {
                 self.told = Told::new();
-                self.instructions = Vec::new(self.alloc);
+                self.instructions = ExecutionCounts::new(self.alloc);
                 self.parts = Parts::new(self.alloc);
-                self.intervals = Vec::new(self.alloc);
+                self.series = SeriesRows::new(self.alloc);
                 Err(no_memory)
             }
         }
@@ -149,8 +217,9 @@ impl Tracer for Profile {
         let ended = end_interval(
             self.alloc,
             &mut self.parts,
-            &mut self.intervals,
-            entries.as_slice(),
+            &mut self.series,
+            self.comps,
+            self.every,
             graph.events(),
             fired.as_slice(),
         );
@@ -161,32 +230,29 @@ impl Tracer for Profile {
             }
             Err(no_memory) => {
                 self.told = Told::new();
-                self.instructions = Vec::new(self.alloc);
+                self.instructions = ExecutionCounts::new(self.alloc);
                 self.parts = Parts::new(self.alloc);
-                self.intervals = Vec::new(self.alloc);
+                self.series = SeriesRows::new(self.alloc);
                 Err(no_memory)
             }
         }
     }
 }
 
-/// The end of an interval, of which these are the accesses, the events, and when they fired.
+/// The end of an interval, of which these are the events and when they fired.
 fn end_interval(
     alloc: Global,
     parts: &mut Parts,
-    intervals: &mut Vec<IntervalRow>,
-    entries: &[Entry],
+    series: &mut SeriesRows,
+    comps: usize,
+    every: u32,
     events: &[Event],
     fired: &[Fired],
 ) -> Result<(), NoMemory>
     ensures parts { OnOk result ((time : Entry → ℕ) (cores : ℕ) (steps : List Step) (entries : List Entry) (delays : List ℕ) → AreParts time cores steps parts.old → AreParts time cores (steps ++ Ended (record { entries = entries; events = events.now; fired = fired.now; delays = delays }) ∷ []) parts.new) }
-    ensures row { OnOk result ((delays : List ℕ) → intervals.new.items ≡ intervals.old.items ++ row_of (record { entries = entries.now; events = events.now; fired = fired.now; delays = delays }) ∷ []) }
+    ensures series { OnOk result ((s : Series) → IsSeries s series.old → IsSeries (record { begun = nothing_open; rows = with_last (with_interval s.begun events.now fired.now) (with_room comps every s.rows) }) series.new) }
 {
     parts.end(alloc, events, fired)?;
-    intervals.push(IntervalRow {
-        accesses: entries.len() as u64,
-        events: events.len() as u64,
-        waited: all_waits(events, fired),
-    })?;
+    series.ended(alloc, comps, every, events, fired)?;
     Ok(())
 }

@@ -14,6 +14,9 @@ use trace::trace;
 /// The first address of memory, at which the programs begin.
 const BASE: u64 = 0x1_0000;
 
+/// How many components the machines have: a bank and a controller.
+const COMPS: usize = 2;
+
 /// An ELF header and the header of one segment that may be executed, without its lengths: the
 /// file's bytes from 120 on are at 0x10000.
 static HEADERS: [u8; 88] = [
@@ -133,7 +136,7 @@ fn file_of(rt: &(impl Abort + AllocGlobal), words: &[u32]) -> Vec<u8> {
 }
 
 /// The image of a program of these words in the machine's memory.
-fn loaded(rt: &(impl Abort + AllocGlobal), machine: &Machine, words: &[u32]) -> Image
+pub(crate) fn loaded(rt: &(impl Abort + AllocGlobal), machine: &Machine, words: &[u32]) -> Image
     requires { IsMachine machine.now }
     ensures base { result.base ≡ machine.now.memory.base }
     ensures size { result.size ≡ machine.now.memory.size }
@@ -154,7 +157,12 @@ fn push(rt: &(impl Abort + AllocGlobal), schedule: &mut Schedule, turns: &[u16])
 }
 
 /// The schedule of so many cores with these turns, so many in each interval.
-fn schedule_of(rt: &(impl Abort + AllocGlobal), cores: u16, turns: &[u16], each: usize) -> Schedule
+pub(crate) fn schedule_of(
+    rt: &(impl Abort + AllocGlobal),
+    cores: u16,
+    turns: &[u16],
+    each: usize,
+) -> Schedule
     requires { 0 < each }
     ensures { result.cores ≡ cores }
 {
@@ -166,7 +174,26 @@ fn schedule_of(rt: &(impl Abort + AllocGlobal), cores: u16, turns: &[u16], each:
 }
 
 /// The profile of a program of these words under a schedule with these turns, so many in each
-/// interval.
+/// interval. A row of its series has so many intervals.
+pub(crate) fn profile_in(
+    rt: &(impl Abort + AllocGlobal),
+    machine: &Machine,
+    words: &[u32],
+    turns: &[u16],
+    each: usize,
+    every: u32,
+) -> Profile
+    requires machine { IsMachine machine.now }
+    requires each { 0 < each }
+{
+    let image = loaded(rt, machine, words);
+    let schedule = schedule_of(rt, machine.cores, turns, each);
+    let mut profile = Profile::new(rt.alloc(), Net::of(machine), machine.cores, COMPS, every);
+    trace(rt.alloc(), machine, &image, &schedule, &mut profile).expect(rt, "a legal schedule");
+    profile
+}
+
+/// The same, with a row for each interval.
 pub(crate) fn profile_of(
     rt: &(impl Abort + AllocGlobal),
     machine: &Machine,
@@ -177,9 +204,5 @@ pub(crate) fn profile_of(
     requires machine { IsMachine machine.now }
     requires each { 0 < each }
 {
-    let image = loaded(rt, machine, words);
-    let schedule = schedule_of(rt, machine.cores, turns, each);
-    let mut profile = Profile::new(rt.alloc(), Net::of(machine), machine.cores);
-    trace(rt.alloc(), machine, &image, &schedule, &mut profile).expect(rt, "a legal schedule");
-    profile
+    profile_in(rt, machine, words, turns, each, 1)
 }

@@ -3,8 +3,12 @@
 #![tactic(auto)]
 
 #[cfg(test)]
+mod counts;
+#[cfg(test)]
 mod given;
 #[cfg(test)]
 mod profiles;
 #[cfg(test)]
 mod tests;
+#[cfg(test)]
+mod told;

@@ -1,6 +1,6 @@
 use Rattle.std.proofs.Common.{◌∙◌}
 use Rattle.profile.specs.declared.copies.CopyState.TheVariants.{Never}
-use Rattle.profile.specs.Tables.{value_at}
+use Rattle.sparse_table.specs.ByCore.{value_at}
 use Rattle.profile.proofs.Leaving.{done_more, untold_more}
 use Rattle.profile.proofs.copies.leave_all.Goals as goal
 

@@ -1,7 +1,7 @@
 use Rattle.std.proofs.Common.{◌≡◌, ◌<◌, ◌≤◌, ℕ, length}
 use Rattle.profile.specs.declared.copies.CopyState.TheVariants.{Never}
 use Rattle.profile.specs.CopyTables.{all_left}
-use Rattle.profile.specs.Tables.{value_at}
+use Rattle.sparse_table.specs.ByCore.{value_at}
 use Rattle.profile.proofs.copies.leave_all.Given as goal
 
 abbrev pub invariant-loop-core : goal.invariant-loop-core

@@ -9,5 +9,5 @@ use Rattle.profile.proofs.parts.give.Goals as goal
 pub returns-in_ok-add : goal.returns-in_ok-add
 returns-in_ok-add c = λ cs rows.
     let new = c.add.new.self in
-    subst (λ (first : Option Maker). AreRows (cs ++ map wait_adds (wait_for first c.args.event.now c.args.fired.now)) new.addresses.items new.lines) (sym c.in-Some.is)
-    (subst (λ (adds : Contribution). AreRows (cs ++ adds ∷ []) new.addresses.items new.lines) c.wait_adds.ensures (c.in_ok-add.ensures cs rows))
+    subst (λ (first : Option Maker). AreRows (cs ++ map wait_adds (wait_for first c.args.event.now c.args.fired.now)) new.addresses.items new.lines.items) (sym c.in-Some.is)
+    (subst (λ (adds : Contribution). AreRows (cs ++ adds ∷ []) new.addresses.items new.lines.items) c.wait_adds.ensures (c.in_ok-add.ensures cs rows))

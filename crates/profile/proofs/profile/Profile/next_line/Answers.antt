@@ -1,11 +1,11 @@
 use Rattle.std.proofs.Common.{subst}
-use Rattle.noc_mesh.specs.NetTiming.{net_time}
-use Rattle.profile.specs.Contributions.{contributions}
-use Rattle.profile.specs.Profiled.{Profiled}
-use Rattle.profile.specs.Rows.{IsNextLine}
+use Rattle.profile.specs.Profiled.{Profiled, added_in}
+use Rattle.profile.specs.Rows.{IsNext, has_line}
+use Rattle.profile.proofs.Right.{profiled}
 use Rattle.profile.proofs.profile.Profile.next_line.Goals as goal
 
 pub returns : goal.returns
 returns c =
-    subst (λ (p : Profiled). IsNextLine c.args.from (contributions (net_time p.path) p.cores p.steps) c.next_line.result) c.self.view_is
-    (c.next_line.ensures (contributions (net_time c.self.inside.net.path) c.self.inside.cores c.self.inside.told.steps) c.self.invariant.parts.rows)
+    let p = c.self.inside in
+    subst (λ (q : Profiled). IsNext (has_line (added_in q) c.args.core) c.args.from c.next_line.result) c.self.view_is
+    (c.next_line.ensures (added_in (profiled p.net.path p.cores p.comps p.every p.told.steps)) c.self.invariant.parts.rows)

@@ -1,23 +1,13 @@
-use Rattle.std.proofs.Common.{◌+◌, List, ap, sym, subst, ◌∙◌}
-use Rattle.noc_mesh.specs.NetTiming.{net_time}
-use Rattle.trace.specs.Trace.{Step}
-use Rattle.profile.specs.Profiled.{IsRight}
-use Rattle.profile.specs.Tallies.{capped}
-use Rattle.profile.proofs.Instructions.{one_more}
-use Rattle.profile.proofs.PartsMore.{executed_more}
-use Rattle.profile.proofs.Right.{rows_executed}
+use Rattle.profile.proofs.Right.{executed, recounted}
 use Rattle.profile.proofs.profile.ProfileTracer.executed.Goals as goal
+
+pub invariant_of-self : goal.invariant_of-self
+invariant_of-self c =
+    let p = c.self.inside in
+    recounted p.net.path p.cores p.comps p.every p.told.steps p.instructions c.add.new.self p.parts p.series c.in_err-add.ensures.err c.self.invariant
 
 pub invariant_of-self-2 : goal.invariant_of-self-2
 invariant_of-self-2 c =
-    let steps = c.self.inside.told.steps in
-    let parts = c.self.inside.parts in
-    let time = net_time c.self.inside.net.path in
-    let old = c.self.inside.instructions.items in
-    let new = c.set_at.new.tables.items in
-    subst (λ (steps' : List Step). IsRight time c.self.inside.cores steps' new parts c.self.inside.intervals.items) (sym c.then_executed-self-inside.ensures)
-    (record {
-      counts = one_more steps old new c.args.core c.args.pc c.saturating_add-count.result c.self.invariant.counts (c.saturating_add-count.ensures ∙ ap (λ v. capped (v + 1)) c.value_at.ensures) c.in_ok-set_at.ensures.ok;
-      parts = executed_more time c.self.inside.cores steps parts parts c.self.invariant.parts c.args.core c.args.pc;
-      intervals = c.self.invariant.intervals ∙ sym (rows_executed steps c.args.core c.args.pc);
-    })
+    let p = c.self.inside in
+    executed p.net.path p.cores p.comps p.every p.told.steps c.then_executed-self-inside.result.steps p.instructions p.parts p.series c.self.invariant
+    c.args.core c.args.pc c.add.new.self c.executed.new.self c.then_executed-self-inside.ensures c.in_ok-add.ensures.ok c.executed.ensures.begun c.executed.ensures.rows

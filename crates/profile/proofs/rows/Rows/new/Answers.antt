@@ -2,4 +2,4 @@ use Rattle.profile.proofs.RowsMore.{no_rows}
 use Rattle.profile.proofs.rows.Rows.new.Goals as goal
 
 pub returns : goal.returns
-returns c = no_rows c.new.result.items c.new-2.result c.new.ensures.items c.new-2.ensures
+returns c = no_rows c.new.result.items c.new-2.result.items c.new.ensures.items c.new-2.ensures.items

@@ -1,0 +1,14 @@
+use Rattle.profile.proofs.Right.{begun, executed_all}
+use Rattle.profile.proofs.profile.ProfileTracer.executed_all.Goals as goal
+
+pub invariant_of-self : goal.invariant_of-self
+invariant_of-self c =
+    let p = c.self.inside in
+    executed_all p.net.path p.cores p.comps p.every p.told.steps c.then_executed_all-self-inside.result.steps p.instructions p.parts p.series c.self.invariant
+    c.args.core c.args.pc c.args.count c.add_stretch.new.self c.executed.new.self c.then_executed_all-self-inside.ensures c.in-Ok.ensures c.executed.ensures.begun c.executed.ensures.rows
+
+pub invariant_of-self-in-Err : goal.invariant_of-self-in-Err
+invariant_of-self-in-Err c =
+    let p = c.self.inside in
+    begun p.net.path p.cores p.comps p.every c.new-self-inside.result.steps c.new.result c.new-in-Err.result c.new-in-Err-2.result
+    c.new-self-inside.ensures c.new.ensures c.new-in-Err.ensures c.new-in-Err-2.ensures

@@ -1,0 +1,64 @@
+//! Laws over the definitions alone, each the contract of a function that does nothing.
+ghost use Rattle.profile.specs.Laws.{AddressRowsAddUp, ClassesAddUp, CopiesAreTheMachines, CoreCountersAddUp, LineRowsAddUp, SeriesAddsUp, SumRowsAddUp, WaitsAddUp, WaitsAreOfComponents};
+
+use trace::laws::{
+    accesses_are_met, accesses_are_of_intervals, instructions_are_told, intervals_are_the_runs,
+    steps_fit,
+};
+
+/// What a core's steps add up to, at whatever addresses and lines, is what the run counted of the
+/// core: accesses by kind, fetches among them, and by how the caches met them.
+pub fn core_counters_add_up()
+    ensures { CoreCountersAddUp }
+{
+    accesses_are_of_intervals();
+    intervals_are_the_runs();
+}
+
+/// The rows of a core add up to what the run counted of it: those of its addresses, and those of
+/// lines. And the rows of addresses of all cores together add up to what these counted.
+pub fn rows_add_up()
+    ensures addresses { AddressRowsAddUp }
+    ensures lines { LineRowsAddUp }
+    ensures sums { SumRowsAddUp }
+{
+    accesses_are_of_intervals();
+    instructions_are_told();
+    intervals_are_the_runs();
+    steps_fit();
+}
+
+/// Each event of a run's intervals waits for one access that was told: so all waits together are
+/// those of the events, and so those of the components.
+pub fn waits_add_up()
+    ensures events { WaitsAddUp }
+    ensures components { WaitsAreOfComponents }
+{
+    access_log::laws::recorded_order_sorts();
+    noc_mesh::laws::net_accesses_beyond_hits_have_events();
+    noc_mesh::laws::net_graphs_fit();
+    accesses_are_of_intervals();
+    intervals_are_the_runs();
+}
+
+/// What the steps say of a core's copies is what its caches have. So each access that finds no copy
+/// there is of one class.
+pub fn copies_are_the_machines()
+    ensures copies { CopiesAreTheMachines }
+    ensures classes { ClassesAddUp }
+{
+    shard::laws::coherence_stays();
+    shard::laws::copies_behind();
+    shard::laws::new_shards_stand();
+    accesses_are_met();
+}
+
+/// The rows of a series add up to what the run counted: its intervals, the instructions and the
+/// accesses of all cores, its events, and how long each component had them wait.
+pub fn series_adds_up()
+    ensures { SeriesAddsUp }
+{
+    accesses_are_of_intervals();
+    instructions_are_told();
+    intervals_are_the_runs();
+}
