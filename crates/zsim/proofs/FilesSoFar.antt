@@ -106,14 +106,14 @@ module _ {F : Type 0} (is_seen : Bool) (contents : F → List ℕ → Option (Li
     failed_later : (outputs : List NamedFile) → FailedOnWrite second outputs → FailedOnWrite both outputs
     failed_later outputs is = record { short = cut_later outputs is.short; failed = failed_to_write is.short.cut.name is.failed }
 
-    finishes_later : (s : Status) (limit : Bool) (text : List ℕ) (outputs : List NamedFile) (out : SinkSeen) → FinishesAs s limit text outputs second out → FinishesAs s limit text outputs both out
+    pub finishes_later : (s : Status) (limit : Bool) (text : List ℕ) (outputs : List NamedFile) (out : SinkSeen) → FinishesAs s limit text outputs second out → FinishesAs s limit text outputs both out
     finishes_later s limit text outputs out (inl (is, whole, no_put, none, written)) = inl (is, whole, no_put, no_fault none, whole_later outputs written)
     finishes_later s limit text outputs out (inr (inl (is, part, put, then_quiet))) = inr (inl (is, part, put, still_quiet then_quiet))
     finishes_later s limit text outputs out (inr (inr (inl (is, part, no_put, then_quiet)))) = inr (inr (inl (is, part, no_put, still_quiet then_quiet)))
     finishes_later s limit text outputs out (inr (inr (inr (inl (is, whole, no_put, not_written))))) = inr (inr (inr (inl (is, whole, no_put, failed_later outputs not_written))))
     finishes_later s limit text outputs out (inr (inr (inr (inr (is, whole, no_put, none, cut))))) = inr (inr (inr (inr (is, whole, no_put, no_fault none, cut_later outputs cut))))
 
-    untouched_later : (out : SinkSeen) → IsUntouched second out → IsUntouched both out
+    pub untouched_later : (out : SinkSeen) → IsUntouched second out → IsUntouched both out
     untouched_later out untouched = record { quiet = still_quiet untouched.quiet; no_put = untouched.no_put; nothing = untouched.nothing }
 
     pub runs_later : (s : Status) (machine : Machine) (image : MemoryImage) (brief : Bool) (record_to events_to : Option (List ℕ)) (schedule : ScheduleState) (out : SinkSeen)

@@ -286,9 +286,13 @@ pub record EndsAs (seen : Seen) (s : Status) (k : Kept) : Type 0 where
 abbrev pub IsNoCommand : Status → Kept → Type 0
 IsNoCommand s kept = ((s ≡ status.Usage) ⊎ (s ≡ status.NoMemory)) × KeepsNothing kept
 
--- What was said on standard error: the whole line of the status, or a prefix of it where the stream failed or memory
--- ran out. A fault that was counted is always told.
+-- What was said of a line: all of it, or a prefix where the stream failed or memory ran out. A fault that was counted is
+-- always told.
+abbrev pub SaysLine : Said → (line : List ℕ) → (err : SinkSeen) → Type 0
+SaysLine said.All line err = Gained err line × NoPutFailed err
+SaysLine said.Fault line err = GainedPrefix err line × PutFailed err
+SaysLine said.NoMemory line err = GainedPrefix err line × NoPutFailed err
+
+-- what was said on standard error is the line of the status
 abbrev pub Says : Said → Status → (err : SinkSeen) → Type 0
-Says said.All s err = Gained err (error_line s) × NoPutFailed err
-Says said.Fault s err = GainedPrefix err (error_line s) × PutFailed err
-Says said.NoMemory s err = GainedPrefix err (error_line s) × NoPutFailed err
+Says said s err = SaysLine said (error_line s) err

@@ -1,5 +1,5 @@
--- What the private steps of a call promise to the call. It serves their contracts alone: no clause of a public function
--- cites it.
+-- What the steps of a call promise to the call. It serves their contracts alone: the clauses of the call itself do not
+-- cite it.
 use Rattle.std.specs.Prelude.{◌≡◌, ◌⊎◌, ℕ, ◌<◌, ◌≤◌, Bool, List, [], ◌∷◌, ◌++◌, length, Option, Some, None, IfSome, IsSomeAnd, Result, Ok, Err}
 use Rattle.access_log.specs.Schedule.{ScheduleState}
 use Rattle.elf_load.specs.MemoryImage.{MemoryImage}

@@ -206,7 +206,7 @@ fn execution_by<'w>(matches: &ArgMatches<'w>, task: Option<Task<'w>>) -> Option<
 }
 
 /// The first value of an option or a positional word.
-fn value<'w>(matches: &ArgMatches<'w>, name: &str) -> Option<&'w str>
+pub fn value<'w>(matches: &ArgMatches<'w>, name: &str) -> Option<&'w str>
     ensures { option_map (λ s. s.now) result ≡ first_of name.now (rows_of (found_of matches.now)) }
 {
     matches.get_str(name)
@@ -214,7 +214,7 @@ fn value<'w>(matches: &ArgMatches<'w>, name: &str) -> Option<&'w str>
 
 /// The name of the machine's file, where the word is not that of the built-in machine.
 #[tactic(auto, unfolding(crate::specs::CommandLine::machine_file_of))]
-fn machine_file_of(word: &str) -> Option<&str>
+pub fn machine_file_of(word: &str) -> Option<&str>
     ensures { option_map (λ name. name.now) result ≡ machine_file_of word.now }
 {
     if word == "plain" { None } else { Some(word) }
@@ -222,7 +222,7 @@ fn machine_file_of(word: &str) -> Option<&str>
 
 /// What the word for the executable names: `gen:N`, or a file.
 #[tactic(auto, unfolding(crate::specs::CommandLine::exe_of))]
-fn exe_of(word: &str) -> Option<Exe<'_>>
+pub fn exe_of(word: &str) -> Option<Exe<'_>>
     ensures { option_map exe_value result ≡ exe_of word.now }
 {
     match word.strip_prefix("gen:") {
@@ -246,7 +246,7 @@ fn workers_of(word: Option<&str>) -> Option<u16>
 }
 
 /// The number below 2^64 that a word writes.
-fn number_of(word: &str) -> Option<u64>
+pub fn number_of(word: &str) -> Option<u64>
     ensures { result ≡ decimal_of word.now }
 {
     if !is_decimal(word.as_bytes()) {

@@ -12,6 +12,7 @@ mod options;
 mod outputs;
 mod put;
 mod setup;
+pub mod steps;
 mod top;
 
 pub use ended::{Ended, Kept, Said, ScheduleFault, Status, Which};

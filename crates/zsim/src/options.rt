@@ -39,7 +39,7 @@ pub fn check_options<'w>(alloc: Global) -> Result<Command<'w>, AllocError>
 }
 
 /// The machine and the executable.
-fn inputs<'w>(alloc: Global) -> Result<Command<'w>, AllocError>
+pub fn inputs<'w>(alloc: Global) -> Result<Command<'w>, AllocError>
     ensures { IfOk result (λ options. app_of options ≡ inputs) }
 {
     let options = with_arg(no_options(alloc), positional(alloc, "machine"))?;
@@ -56,7 +56,7 @@ fn no_options<'w>(alloc: Global) -> Command<'w>
 }
 
 /// One argument more.
-fn with_arg<'w>(options: Command<'w>, arg: Arg<'w>) -> Result<Command<'w>, AllocError>
+pub fn with_arg<'w>(options: Command<'w>, arg: Arg<'w>) -> Result<Command<'w>, AllocError>
     requires { arg.global ≡ false }
     ensures { IfOk result (λ more. app_of more ≡ with_rule (app_of options.entry) (rule_of arg.entry)) }
 {
@@ -72,7 +72,7 @@ fn positional<'w>(alloc: Global, name: &'w str) -> Arg<'w>
 }
 
 /// `--name VALUE`.
-fn option<'w>(alloc: Global, name: &'w str) -> Arg<'w>
+pub fn option<'w>(alloc: Global, name: &'w str) -> Arg<'w>
     ensures rule { rule_of result ≡ option name.entry.now }
     ensures local { result.global ≡ false }
 {
@@ -80,7 +80,7 @@ fn option<'w>(alloc: Global, name: &'w str) -> Arg<'w>
 }
 
 /// `--name`.
-fn flag<'w>(alloc: Global, name: &'w str) -> Arg<'w>
+pub fn flag<'w>(alloc: Global, name: &'w str) -> Arg<'w>
     ensures rule { rule_of result ≡ flag name.entry.now }
     ensures local { result.global ≡ false }
 {

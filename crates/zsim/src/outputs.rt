@@ -1,5 +1,6 @@
-//! The outputs of a run: the report, and behind it the files that the command names.
+//! The outputs of a run: the report, and behind it files.
 ghost use Rattle.std.specs.Prelude.{◌≡◌, ◌⊎◌, ◌++◌, IfOk, IfSome, option_map};
+ghost use Rattle.std.specs.List.{flat_map};
 ghost use Rattle.reference.specs.Results.{HasCounts};
 ghost use Rattle.schedule_file.specs.ScheduleFile.{schedule_file_of};
 ghost use Rattle.zsim.specs.Ended.{status_at};
@@ -48,21 +49,39 @@ pub fn output_if<'w>(name: Option<&'w str>, bytes: &'w [u8]) -> Option<OutputFil
     }
 }
 
-/// Writes the report, and behind it the file of the schedule and then that of the events, where there
-/// are such files.
-pub fn finish<F: Files, O: Sink>(
+/// Writes the report of a run, and behind it the file of the schedule and then that of the events,
+/// where there are such files.
+pub fn finish_run<'w, F: Files, O: Sink>(
     alloc: Global,
     machine: &Machine,
     brief: bool,
     results: &Final,
-    schedule: Option<OutputFile<'_>>,
-    events: Option<OutputFile<'_>>,
+    schedule: Option<OutputFile<'w>>,
+    events: Option<OutputFile<'w>>,
     files: &mut F,
     out: &mut O,
 ) -> Status
     requires { HasCounts machine.now results.now }
     ensures { ((result ≡ Status.NoMemory) × IsUntouched (files_seen F.is_seen F.contents F.faults F.latest files.old files.new) (sink_seen O.is_seen O.bytes O.faults out.old out.new))
         ⊎ FinishesAs result results.now.limit (report_of machine.now brief results.now) (output_list schedule.entry ++ output_list events.entry) (files_seen F.is_seen F.contents F.faults F.latest files.old files.new) (sink_seen O.is_seen O.bytes O.faults out.old out.new) }
+{
+    let outputs = [schedule, events];
+    finish(alloc, machine, brief, results, &outputs, files, out)
+}
+
+/// Writes the report, and behind it these files, one after the other, where there are such.
+pub fn finish<F: Files, O: Sink>(
+    alloc: Global,
+    machine: &Machine,
+    brief: bool,
+    results: &Final,
+    outputs: &[Option<OutputFile<'_>>],
+    files: &mut F,
+    out: &mut O,
+) -> Status
+    requires { HasCounts machine.now results.now }
+    ensures { ((result ≡ Status.NoMemory) × IsUntouched (files_seen F.is_seen F.contents F.faults F.latest files.old files.new) (sink_seen O.is_seen O.bytes O.faults out.old out.new))
+        ⊎ FinishesAs result results.now.limit (report_of machine.now brief results.now) (flat_map output_list outputs.now) (files_seen F.is_seen F.contents F.faults F.latest files.old files.new) (sink_seen O.is_seen O.bytes O.faults out.old out.new) }
 {
     let text = match report_of(alloc, machine, results, brief) {
         Ok(text) => text,
@@ -73,24 +92,28 @@ pub fn finish<F: Files, O: Sink>(
         Err(SinkFail::Failed) => return Status::WriteFault,
         Err(SinkFail::NoMemory) => return Status::NoMemory,
     }
-    match write_files(alloc, schedule, events, files) {
+    match write_files(alloc, outputs, files) {
         Ok(()) => status_of(results.limit),
         Err(FileFail::Failed) => Status::WriteFault,
         Err(FileFail::NoMemory) => Status::NoMemory,
     }
 }
 
-/// Writes the file of the schedule and then that of the events, where there are such files.
+/// Writes these files, one after the other, where there are such.
 fn write_files<F: Files>(
     alloc: Global,
-    schedule: Option<OutputFile<'_>>,
-    events: Option<OutputFile<'_>>,
+    outputs: &[Option<OutputFile<'_>>],
     files: &mut F,
 ) -> Result<(), FileFail>
-    ensures { Writes result (output_list schedule.entry ++ output_list events.entry) (files_seen F.is_seen F.contents F.faults F.latest files.old files.new) }
+    ensures { Writes result (flat_map output_list outputs.now) (files_seen F.is_seen F.contents F.faults F.latest files.old files.new) }
 {
-    write_file(alloc, schedule, files)?;
-    write_file(alloc, events, files)
+    match outputs.split_first() {
+        Some((first, rest)) => {
+            write_file(alloc, *first, files)?;
+            write_files(alloc, rest, files)
+        }
+        None => Ok(()),
+    }
 }
 
 /// Writes a file, if there is one.

@@ -1,8 +1,10 @@
 //! Puts a whole text into a sink.
 ghost use Rattle.std.specs.Prelude.{OnOk, OnErr};
+ghost use Rattle.zsim.specs.Ended.{SaysLine};
 ghost use Rattle.zs_host.specs.Faults.{SinkFaults};
 ghost use Rattle.zsim.specs.Seen.{sink_seen, Gained, GainedPrefix};
 
+use crate::Said;
 use std::alloc::Global;
 use zs_host::{Sink, SinkFail};
 
@@ -17,4 +19,15 @@ pub fn put_all<S: Sink>(alloc: Global, sink: &mut S, text: &[u8]) -> Result<(), 
         done += sink.put(alloc, &text[done..])?;
     }
     Ok(())
+}
+
+/// Says a line, and answers how much of it was said.
+pub fn say_line<S: Sink>(alloc: Global, sink: &mut S, line: &[u8]) -> Said
+    ensures { SaysLine result line.now (sink_seen S.is_seen S.bytes S.faults sink.old sink.new) }
+{
+    match put_all(alloc, sink, line) {
+        Ok(()) => Said::All,
+        Err(SinkFail::Failed) => Said::Fault,
+        Err(SinkFail::NoMemory) => Said::NoMemory,
+    }
 }

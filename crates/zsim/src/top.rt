@@ -15,8 +15,8 @@ ghost use Rattle.zsim.specs.CommandValue.{execution_value};
 use crate::checking::check_file;
 use crate::command_line::{Command, Execution, Task, command_of};
 use crate::error_line::error_line;
-use crate::outputs::{finish, output_if, schedule_bytes};
-use crate::put::put_all;
+use crate::outputs::{finish, finish_run, output_if, schedule_bytes};
+use crate::put::say_line;
 use crate::setup::{take_exe, take_machine, take_schedule};
 use crate::{Ended, Kept, Said, ScheduleFault, Status, Which};
 use access_log::Schedule;
@@ -26,7 +26,7 @@ use replay::{Recording, ReplayFail, replay, run};
 use std::alloc::{AllocError, Global};
 use std::sync::Wait;
 use std::thread::Threads;
-use zs_host::{Files, Gate, Sink, SinkFail};
+use zs_host::{Files, Gate, Sink};
 use zs_num::{Bytes, NoMemory};
 
 /// Does what the words say: they are those after the program's name. The report goes to `out`, and
@@ -180,7 +180,7 @@ fn run_and_report<R: Threads + Wait + Sync, F: Files, O: Sink, G: Gate>(
     };
     let record = output_if(record_to, bytes.as_slice());
     let events = output_if(events_to, events);
-    finish(alloc, machine, brief, &results, record, events, files, out)
+    finish_run(alloc, machine, brief, &results, record, events, files, out)
 }
 
 /// A recording of events where a file is named for them.
@@ -245,7 +245,7 @@ fn replay_and_report<F: Files, O: Sink>(
 {
     replay::laws::each_run_has_one_events_file();
     match replay(alloc, machine, image, schedule) {
-        Ok(results) => finish(alloc, machine, brief, &results, None, None, files, out),
+        Ok(results) => finish(alloc, machine, brief, &results, &[], files, out),
         Err(ReplayFail::Illegal { interval, place }) => Status::BadSchedule(ScheduleFault::Illegal {
             interval,
             place,
@@ -262,13 +262,8 @@ fn say<E: Sink>(alloc: Global, err: &mut E, status: &Status) -> Said
     if matches!(status, Status::Ran) {
         return Said::All;
     }
-    let line = match error_line(alloc, status) {
-        Ok(line) => line,
-        Err(AllocError) => return Said::NoMemory,
-    };
-    match put_all(alloc, err, line.as_bytes()) {
-        Ok(()) => Said::All,
-        Err(SinkFail::Failed) => Said::Fault,
-        Err(SinkFail::NoMemory) => Said::NoMemory,
+    match error_line(alloc, status) {
+        Ok(line) => say_line(alloc, err, line.as_bytes()),
+        Err(AllocError) => Said::NoMemory,
     }
 }

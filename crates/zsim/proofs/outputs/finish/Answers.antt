@@ -1,5 +1,6 @@
 -- How far the outputs came.
-use Rattle.std.proofs.Common.{◌≡◌, ◌++◌, inl, inr, refl, rules}
+use Rattle.std.proofs.Common.{◌≡◌, inl, inr, refl, rules}
+use Rattle.std.specs.List.{flat_map}
 use Rattle.zsim.specs.Ended.{status_at}
 use Rattle.zsim.specs.Report.{report_of}
 use Rattle.zsim.specs.Seen.{files_seen, sink_seen}
@@ -71,7 +72,7 @@ returns-in-Err-Failed-write_files g c =
       refl,
       gained out c.as_slice.result.now c.in-Ok.text text c.as_slice.ensures c.in-Ok.ensures c.in-Ok-put_all.ensures.all,
       c.in-Ok-put_all.ensures.faults,
-      write_failed c.in-Err-Failed-write_files.field-0 (output_list c.args.schedule ++ output_list c.args.events) written c.in-Err-Failed-write_files.field-0-is c.in-Err-Failed-write_files.ensures,
+      write_failed c.in-Err-Failed-write_files.field-0 (flat_map output_list c.args.outputs.now) written c.in-Err-Failed-write_files.field-0-is c.in-Err-Failed-write_files.ensures,
     )))))
 
 pub returns : goal.returns
@@ -81,7 +82,7 @@ returns g c =
     let sink = g.O.Sink in
     let out = sink_seen sink.is_seen sink.bytes sink.faults c.args.out.now c.put_all.new.sink in
     let text = report_of c.args.machine.now c.args.brief c.args.results.now in
-    let cut = write_no_memory c.in-Err-NoMemory-write_files.field-0 (output_list c.args.schedule ++ output_list c.args.events) written c.in-Err-NoMemory-write_files.field-0-is c.in-Err-NoMemory-write_files.ensures in
+    let cut = write_no_memory c.in-Err-NoMemory-write_files.field-0 (flat_map output_list c.args.outputs.now) written c.in-Err-NoMemory-write_files.field-0-is c.in-Err-NoMemory-write_files.ensures in
     inr (inr (inr (inr (inr (
       refl,
       gained out c.as_slice.result.now c.in-Ok.text text c.as_slice.ensures c.in-Ok.ensures c.in-Ok-put_all.ensures.all,

@@ -51,11 +51,11 @@ returns-clause-run g c =
     c.output_if-record.ensures ∙ ap (named_if record_to) c.as_slice.ensures
     ∙ named_so (λ n. n.now) c.args.record_to c.in-Ok-schedule_bytes.bytes (schedule_file_of c.run.new.schedule) c.in-Ok-schedule_bytes.ensures
     in
-    runs_as c.args.machine.now c.args.image.now c.args.brief record_to events_to c.run.new.schedule c.in-Ok-run.results c.finish.result
+    runs_as c.args.machine.now c.args.image.now c.args.brief record_to events_to c.run.new.schedule c.in-Ok-run.results c.finish_run.result
     (output_list c.output_if-record.result ++ output_list c.output_if-events.result)
-    (files_seen files.is_seen files.contents files.faults files.latest c.args.files.now c.finish.new.files)
-    (sink_seen sink.is_seen sink.bytes sink.faults c.args.out.now c.finish.new.out)
-    kept.0 kept.1 (ap₂ (λ xs ys. xs ++ ys) schedule_is (c.output_if-events.ensures ∙ kept.2)) c.finish.ensures
+    (files_seen files.is_seen files.contents files.faults files.latest c.args.files.now c.finish_run.new.files)
+    (sink_seen sink.is_seen sink.bytes sink.faults c.args.out.now c.finish_run.new.out)
+    kept.0 kept.1 (ap₂ (λ xs ys. xs ++ ys) schedule_is (c.output_if-events.ensures ∙ kept.2)) c.finish_run.ensures
 
 pub returns-clause-untouched : goal.returns-clause-untouched
 returns-clause-untouched g c =

@@ -1,0 +1,6 @@
+-- Fewer files are left at each call.
+use Rattle.std.proofs.Common.{length}
+use Rattle.zsim.proofs.outputs.+write_files.Given as goal
+
+abbrev pub decreases-write_files : goal.decreases-write_files
+decreases-write_files g l = length l.outputs.now
