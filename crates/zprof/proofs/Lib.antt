@@ -1,0 +1,6 @@
+pub mod Begun
+pub mod Later
+pub mod OneMore
+pub mod Profiles
+pub mod Said
+pub mod SimpleOptions

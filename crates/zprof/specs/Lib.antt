@@ -1,0 +1,9 @@
+pub mod Options
+pub mod CommandLine
+pub mod CommandValue
+pub mod ErrorLine
+pub mod Order
+pub mod LinesUsed
+pub mod HaltRows
+pub mod ProfileFiles
+pub mod Ended
