@@ -15,7 +15,7 @@ from conftest import FETCHING, WORKED, environment
 
 import zsim_tools
 
-COMMANDS = ("show", "diff", "sweep", "plot", "run", "describe", "explain", "timeline", "series")
+COMMANDS = ("show", "diff", "sweep", "plot", "run", "describe", "explain", "timeline", "series", "annotate", "sharing")
 DEBIAN = "/usr/lib/python3/dist-packages"
 
 

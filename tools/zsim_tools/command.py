@@ -159,6 +159,22 @@ def series_command(words):
     return DONE
 
 
+def annotate_command(words):
+    from .annotate import annotate
+
+    annotate(words.profile, words.executable, words.out)
+    return DONE
+
+
+def sharing_command(words):
+    from .sharing import show_sharing
+    from .symbols import read_symbols
+
+    symbols = read_symbols(words.executable) if words.executable else None
+    show_sharing(words.table, words.lines, symbols)
+    return DONE
+
+
 COMMANDS = {
     "show": show_command,
     "diff": diff_command,
@@ -169,6 +185,8 @@ COMMANDS = {
     "explain": explain_command,
     "timeline": timeline_command,
     "series": series_command,
+    "annotate": annotate_command,
+    "sharing": sharing_command,
 }
 
 

@@ -10,6 +10,7 @@ EXECUTABLE = 2**26
 REPORT = 2**28
 TABLE = 2**30
 PROGRAM = 2**30
+PROFILE = 2**30
 
 
 def read_bytes(path, most):

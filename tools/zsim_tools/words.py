@@ -18,6 +18,8 @@ Runs, tables, comparisons, sweeps and plots of zsim, and what its machines and r
   zsim-tools timeline EVENTS --machine MACHINE --out FILE.json
                                              the events of a run, for Perfetto or chrome://tracing
   zsim-tools series EVENTS --machine MACHINE events and waiting over time, as tables or a plot
+  zsim-tools annotate CALLGRIND ELF          a profile with functions, files and lines
+  zsim-tools sharing LINES.csv [ELF]         the dearest lines that cores share, falsely or truly
 
 Each has a --help of its own. docs/tools.md tells of all, with examples and formulas."""
 
@@ -144,6 +146,27 @@ With the report of the run (--report) the sums are compared with it, and there a
 as if each interval had as many instructions as any other."""
 
 
+ANNOTATE = """\
+Adds functions, files and lines to the callgrind.out of a profile, which has addresses alone. They are those of
+the symbols of the executable and of its DWARF line tables; without line tables there are functions alone:
+
+  zsim-tools annotate lock/callgrind.out lock.symbols -o named.out
+  callgrind_annotate named.out
+
+KCachegrind opens it too. ELF is the executable with its symbols, as `make lock.symbols` of examples/c links
+it."""
+
+
+SHARING = """\
+Shows the dearest lines of the lines.csv of a profile that several cores used and one of them wrote: what they
+cost, how many copies were lost, and which bytes each core read (r) and wrote (w):
+
+  zsim-tools sharing lock/lines.csv lock.symbols
+
+A line is shared falsely where no byte that a core wrote was read or written by another one. With the
+executable, if it has its symbols, the bytes have the names of their data."""
+
+
 class Words(argparse.ArgumentParser):
     """A parser that says in one line what is wrong with the words."""
 
@@ -165,6 +188,8 @@ def parser():
         ("explain", EXPLAIN, ENDING, add_explain),
         ("timeline", TIMELINE, ENDING, add_timeline),
         ("series", SERIES, ENDING, add_series),
+        ("annotate", ANNOTATE, ENDING, add_annotate),
+        ("sharing", SHARING, ENDING, add_sharing),
     ):
         add(commands.add_parser(name, **common(f"zsim-tools {name}", description, ending)))
     return words
@@ -269,6 +294,18 @@ def add_series(series):
     series.add_argument("--by", choices=ways, default="component", help="a line for each of what (component)")
     series.add_argument("--title", metavar="TEXT", help="the title of the plot (the names of both files)")
     add_size(series)
+
+
+def add_annotate(annotate):
+    annotate.add_argument("profile", metavar="CALLGRIND", help="a callgrind.out of zprof")
+    annotate.add_argument("executable", metavar="ELF", help="its executable, with symbols")
+    annotate.add_argument("-o", "--out", metavar="OUT", help="the file to write (standard output)")
+
+
+def add_sharing(sharing):
+    sharing.add_argument("table", metavar="LINES.csv", help="a lines.csv of zprof")
+    sharing.add_argument("executable", nargs="?", metavar="ELF", help="its executable, with symbols")
+    sharing.add_argument("--lines", type=count, default=10, metavar="N", help="show at most N lines (10)")
 
 
 def check_plot(given):
