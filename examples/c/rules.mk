@@ -5,6 +5,7 @@
 #   make NAME.elf   builds one, from NAME.c. CORES=N, STACK=N and MEMORY=N check that the stacks of so
 #                   many cores, of so many bytes each, have room in a memory of so many bytes.
 #                   LIBRARY=1 links library.c where nothing asks for it that the linker sees
+#   make NAME.symbols   links the same once more with its symbols and lines, which zsim-tools reads
 #   make try        runs all under qemu-riscv64 (Debian's qemu-user)
 #   make clean      removes what was built in between
 
@@ -28,6 +29,13 @@ SIZES = $(CORES:%=-Wl,--defsym=cores=%) $(STACK:%=-Wl,--defsym=stack=%) \
 # (a program that is there is linked again where its machine is named)
 %.elf: start.o %.o library.a $(EXAMPLES)/plain.ld $(if $(CORES)$(STACK)$(MEMORY)$(LIBRARY),again)
 	$(CC) $(LDFLAGS) $(SIZES) start.o $*.o -Wl,--start-group library.a -lc -Wl,--end-group -o $@
+
+# The same instructions and data at the same addresses, and what tells of them.
+%.symbols: start.o %.lines.o library.a $(EXAMPLES)/plain.ld again
+	$(CC) $(filter-out -s,$(LDFLAGS)) $(SIZES) start.o $*.lines.o -Wl,--start-group library.a -lc -Wl,--end-group -o $@
+
+%.lines.o: %.c $(HEADERS)
+	$(CC) $(CFLAGS) -g -c $< -o $@
 
 # One object, so that either all of it is linked or nothing.
 library.a: library.o library_start.o
@@ -54,7 +62,7 @@ try: all
 	done
 
 clean:
-	rm -f *.o *.a
+	rm -f *.o *.a *.symbols
 
 again:
 
