@@ -13,6 +13,6 @@ mod BoundLists
 mod BoundSeats
 mod BoundServed
 mod BoundTurns
-mod Sending
+pub mod Sending
 mod OfOneKind
 mod Giving

@@ -14,3 +14,4 @@ pub mod RecordedWeave
 pub mod SoundWeave
 mod FirstParts
 mod Handed
+mod Hired

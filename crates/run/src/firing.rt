@@ -1,5 +1,6 @@
 //! How the events of an interval fire: by one worker on one list, or by several in their domains.
-ghost use Rattle.std.specs.Prelude.{◌≡◌, ◌<◌, ◌≤◌, ◌^◌, IfOk, OnErr, OnOk, length, map};
+ghost use Rattle.std.specs.Prelude.{◌≡◌, ◌+◌, ◌<◌, ◌≤◌, ◌^◌, IfOk, OnErr, OnOk, length, map};
+ghost use Rattle.crew.specs.Crews.{free_seats};
 ghost use Rattle.machine_desc.specs.Machine.{IsMachine};
 ghost use Rattle.component.specs.ComponentStep.{comp_step};
 ghost use Rattle.component.specs.Greatest.{comp_greatest};
@@ -9,15 +10,17 @@ ghost use Rattle.event_graph.specs.Fits.{GraphFits};
 ghost use Rattle.event_graph.specs.OneListWeave.{comps_after, fired_of, woven};
 ghost use Rattle.event_graph.specs.SmallSteps.{AreSmallSteps};
 
+use crate::first_passes::LaterPasses;
 use crate::list_gate::ListGate;
+use bound_workers::{Work, weave_by};
 use component::{Comp, Comps};
+use crew::{Asker, Post};
 use domain_map::split;
 use event_graph::{FiredList, Graph};
 use machine_desc::Machine;
 use std::alloc::Global;
 use std::mem;
-use std::thread::Threads;
-use weave_run::weave;
+use std::sync::Wait;
 use weave_seq::weave_gated;
 use zs_host::Gate;
 use zs_num::NoMemory;
@@ -27,18 +30,22 @@ use zs_num::NoMemory;
 const WORTH_OF_DOMAINS: u64 = 1 << 16;
 
 /// Fires all events by so many workers, who pass the gate before each, and moves the components on:
-/// several fire them by their domains where that is worth it, and then say whether it was.
-/// Otherwise they fire on one list. Answers when the events fired. `places` has the domain of each
-/// component.
-pub fn fire_all<R: Threads + Sync, G: Gate>(
+/// several fire them by their domains where that is worth it and there are posts for them, and then
+/// say whether it was. Otherwise they fire on one list, of whose events `later` lets some go on at
+/// once; before a weave by domains none has passed the gate. Answers when the events fired. `places`
+/// has the domain of each component.
+pub(crate) fn fire_all<'a, R: Wait + Sync, G: Gate>(
     rt: &R,
     alloc: Global,
     machine: &Machine,
     graph: &Graph,
     comps: &mut Comps<Comp>,
     workers: u16,
-    gate: &G,
+    gate: &'a G,
+    later: &LaterPasses<'_, G>,
     places: &[u16],
+    posts: &[Post<Work<'a, R, G>>],
+    askers: &mut [Asker<Work<'a, R, G>>],
     domains_are_worth: &mut bool,
 ) -> Result<FiredList, NoMemory>
     requires machine { IsMachine machine.now }
@@ -47,11 +54,13 @@ pub fn fire_all<R: Threads + Sync, G: Gate>(
     requires small { AreSmallSteps comp_step comp_greatest graph.now comps.old }
     requires few { length graph.now < 2 ^ 31 }
     requires workers { (1 ≤ workers) × (workers ≤ 64) }
+    requires askers { askers.old ≡ free_seats posts.now }
     ensures fired { IfOk result (λ fired. fired ≡ map fired_of (woven comp_step graph.now comps.old)) }
     ensures comps { OnOk result (comps.new ≡ comps_after comp_step graph.now comps.old) }
     ensures unchanged { OnErr result (comps.new ≡ comps.old) }
+    ensures askers { askers.new ≡ askers.old }
 {
-    if workers > 1 && *domains_are_worth {
+    if workers > 1 && *domains_are_worth && usize::from(workers) - 1 <= posts.len() {
         return fire_by_domains(
             rt,
             alloc,
@@ -60,22 +69,36 @@ pub fn fire_all<R: Threads + Sync, G: Gate>(
             comps,
             workers,
             gate,
+            posts,
+            askers,
             domains_are_worth,
         );
     }
-    weave_gated(alloc, graph, comps, places, &ListGate { gate, workers })
+    weave_gated(
+        alloc,
+        graph,
+        comps,
+        places,
+        &ListGate {
+            gate: later,
+            workers,
+        },
+    )
 }
 
-/// Fires all events by their domains, each of which belongs to one of the workers. It was worth it
-/// where the rounds fired many events each.
-fn fire_by_domains<R: Threads + Sync, G: Gate>(
+/// Fires all events by their domains, each of which belongs to one of the workers: the first is here,
+/// and each later one at the post of the number before its own. It was worth it where the rounds
+/// fired many events each.
+fn fire_by_domains<'a, R: Wait + Sync, G: Gate>(
     rt: &R,
     alloc: Global,
     machine: &Machine,
     graph: &Graph,
     comps: &mut Comps<Comp>,
     workers: u16,
-    gate: &G,
+    gate: &'a G,
+    posts: &[Post<Work<'a, R, G>>],
+    askers: &mut [Asker<Work<'a, R, G>>],
     domains_are_worth: &mut bool,
 ) -> Result<FiredList, NoMemory>
     requires machine { IsMachine machine.now }
@@ -84,16 +107,19 @@ fn fire_by_domains<R: Threads + Sync, G: Gate>(
     requires small { AreSmallSteps comp_step comp_greatest graph.now comps.old }
     requires few { length graph.now < 2 ^ 31 }
     requires workers { (1 ≤ workers) × (workers ≤ 64) }
+    requires posts { workers ≤ length posts.now + 1 }
+    requires askers { askers.old ≡ free_seats posts.now }
     ensures fired { IfOk result (λ fired. fired ≡ map fired_of (woven comp_step graph.now comps.old)) }
     ensures comps { OnOk result (comps.new ≡ comps_after comp_step graph.now comps.old) }
     ensures unchanged { OnErr result (comps.new ≡ comps.old) }
+    ensures askers { askers.new ≡ askers.old }
 {
     event_graph::laws::fitting_events_are_there::<Comp>();
     // Its events are numbered in order, as the type keeps.
     let _numbered = graph.events();
     let parts = split(alloc, graph, machine)?;
     let own = mem::replace(comps, Comps::of(Vec::new(alloc)));
-    match weave(rt, alloc, graph, &parts, own, workers, gate) {
+    match weave_by(rt, alloc, graph, &parts, own, workers, gate, posts, askers) {
         Ok(woven) => {
             // An interval without events has no round, and says nothing for domains.
             *domains_are_worth = graph.events().len() as u64

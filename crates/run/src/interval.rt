@@ -26,7 +26,6 @@ use crew::{Asker, Post};
 use stats::CoreCount;
 use std::alloc::Global;
 use std::sync::Wait;
-use std::thread::Threads;
 use weave_chains::ChainBuffers;
 use worker_pace::{Load, Pace, SIZES, sizes};
 use zs_host::Gate;
@@ -38,7 +37,7 @@ use zs_num::{Cycle, NoMemory};
 /// learns what the interval had. Answers the run after the interval, and the recorded order of the
 /// interval's accesses, which is still to be told where several workers ran the cores and the weave
 /// did not need it.
-pub(crate) fn run_interval<'a, R: Threads + Wait + Sync, G: Gate>(
+pub(crate) fn run_interval<'a, R: Wait + Sync, G: Gate>(
     context: &Context<'a, R, G>,
     simulation: Simulation,
     end: Cycle,
@@ -78,6 +77,8 @@ pub(crate) fn run_interval<'a, R: Threads + Wait + Sync, G: Gate>(
     pace.learn(runners, load);
     let told = weave_all(
         context,
+        posts,
+        askers,
         &mut simulation,
         turns_of(&list),
         domains_are_worth,
@@ -287,8 +288,10 @@ fn turns_of(list: &Option<Vec<u16>>) -> Turns<'_>
 
 /// The weave of an interval that is recorded, and whose accesses were made by these turns. Answers
 /// the cores of its accesses in recorded order, where these had to be told.
-fn weave_all<R: Threads + Sync, G: Gate>(
-    context: &Context<'_, R, G>,
+fn weave_all<'a, R: Wait + Sync, G: Gate>(
+    context: &Context<'a, R, G>,
+    posts: &[Post<Work<'a, R, G>>],
+    askers: &mut [Asker<Work<'a, R, G>>],
     simulation: &mut Simulation,
     turns: Turns<'_>,
     domains_are_worth: &mut bool,
@@ -297,6 +300,7 @@ fn weave_all<R: Threads + Sync, G: Gate>(
     order_buffers: &mut OrderBuffers,
 ) -> Result<Option<Vec<u16>>, NoMemory>
     requires workers { (1 ≤ context.now.workers) × (context.now.workers ≤ 64) }
+    requires askers { askers.old ≡ free_seats posts.now }
     requires machine { IsMachine context.now.machine.now }
     requires net { IsNetOf context.now.machine.now context.now.net.now }
     requires recording { IsRecordingSoFar context.now.machine.now recording.old }
@@ -305,6 +309,7 @@ fn weave_all<R: Threads + Sync, G: Gate>(
     ensures told { IfOk result (λ told. IfSome told (λ cores. cores.items ≡ map (λ e. e.core) (accesses_in simulation.old.recorder))) }
     ensures recorder { OnOk result (simulation.new.recorder ≡ simulation.old.recorder) }
     ensures on { is_on recording.new ≡ is_on recording.old }
+    ensures askers { askers.new ≡ askers.old }
     ensures turns { OnOk result (IsTurnList context.now.machine.now.cores (map (λ e. e.core) (accesses_in simulation.old.recorder))) }
 {
     stats::laws::counters_are_sums();
@@ -320,6 +325,8 @@ fn weave_all<R: Threads + Sync, G: Gate>(
     intervals_are_woven();
     let (delays, told) = weave_recorded(
         context,
+        posts,
+        askers,
         &simulation.recorder,
         turns,
         &mut simulation.comps,

@@ -1,5 +1,6 @@
 //! The weave of an interval whose accesses are recorded.
 ghost use Rattle.std.specs.Prelude.{◌≡◌, ◌*◌, ◌≤◌, ◌^◌, ◌++◌, ◌∷◌, [], All, List, map, IfNone, IfOk, IfSome, OnOk, false, true};
+ghost use Rattle.crew.specs.Crews.{free_seats};
 ghost use Rattle.machine_desc.specs.Machine.{IsMachine};
 ghost use Rattle.component.specs.ComponentStep.{free_of};
 ghost use Rattle.component.specs.Components.{AreComponents};
@@ -20,14 +21,16 @@ use crate::laws::intervals_are_woven;
 use crate::weaving::{events_of, woven_of};
 use access_record::{OrderBuffers, Turns};
 use bound_records::Recorder;
+use bound_workers::Work;
 use component::{Comp, Comps};
+use crew::{Asker, Post};
 use event_graph::{FiredList, Graph};
 use feedback::Delays;
 use machine_desc::Machine;
 use noc_mesh::Net;
 use stats::Counters;
 use std::alloc::Global;
-use std::thread::Threads;
+use std::sync::Wait;
 use weave_chains::ChainBuffers;
 use weave_seq::weave_seq;
 use zs_host::{Gate, OpenGate};
@@ -39,8 +42,10 @@ use zs_num::{Entries, NoMemory};
 /// where this had to be told. `domains_are_worth` says what it says to `fire_all`. The events are
 /// fired core by core, as far as the order of the accesses does not matter, by one worker and where
 /// domains are not worth it, while no events are kept.
-pub(crate) fn weave_recorded<R: Threads + Sync, G: Gate>(
-    context: &Context<'_, R, G>,
+pub(crate) fn weave_recorded<'a, R: Wait + Sync, G: Gate>(
+    context: &Context<'a, R, G>,
+    posts: &[Post<Work<'a, R, G>>],
+    askers: &mut [Asker<Work<'a, R, G>>],
     recorder: &Recorder,
     turns: Turns<'_>,
     comps: &mut Comps<Comp>,
@@ -51,6 +56,7 @@ pub(crate) fn weave_recorded<R: Threads + Sync, G: Gate>(
     order_buffers: &mut OrderBuffers,
 ) -> Result<(Delays, Option<Vec<u16>>), NoMemory>
     requires workers { (1 ≤ context.now.workers) × (context.now.workers ≤ 64) }
+    requires askers { askers.old ≡ free_seats posts.now }
     requires machine { IsMachine context.now.machine.now }
     requires net { IsNetOf context.now.machine.now context.now.net.now }
     requires recorded { IsRecorded context.now.machine.now recorder.now }
@@ -63,6 +69,7 @@ pub(crate) fn weave_recorded<R: Threads + Sync, G: Gate>(
     ensures order { IfOk result (λ r. IfSome r.1 (λ list. list.items ≡ map (λ e. e.core) (accesses_in recorder.now))) }
     ensures recorded { OnOk result ((intervals : List Interval) → IsRecordingOf context.now.machine.now intervals recording.old → IsRecordingOf context.now.machine.now (intervals ++ recorded_interval context.now.machine.now comps.old recorder.now ∷ []) recording.new) }
     ensures on { is_on recording.new ≡ is_on recording.old }
+    ensures askers { askers.new ≡ askers.old }
 {
     let weavers = context.workers.min(context.machine.domains.count);
     let found = weave_by_cores(
@@ -85,6 +92,8 @@ pub(crate) fn weave_recorded<R: Threads + Sync, G: Gate>(
             let order = recorder.recorded_cores(context.alloc, turns, order_buffers)?;
             let delays = weave_in_order(
                 context,
+                posts,
+                askers,
                 recorder,
                 turns,
                 &order,
@@ -180,19 +189,22 @@ fn can_fire_by_cores<G: Gate>(
 }
 
 /// The same in the recorded order of the accesses.
-fn weave_in_order<R: Threads + Sync, G: Gate>(
-    context: &Context<'_, R, G>,
+fn weave_in_order<'a, R: Wait + Sync, G: Gate>(
+    context: &Context<'a, R, G>,
+    posts: &[Post<Work<'a, R, G>>],
+    askers: &mut [Asker<Work<'a, R, G>>],
     recorder: &Recorder,
     turns: Turns<'_>,
     order: &[u16],
     comps: &mut Comps<Comp>,
     counters: &mut Counters,
     workers: u16,
-    gate: &LaterPasses<'_, G>,
+    later: &LaterPasses<'_, G>,
     domains_are_worth: &mut bool,
     recording: &mut Recording,
 ) -> Result<Delays, NoMemory>
     requires workers { (1 ≤ workers) × (workers ≤ 64) }
+    requires askers { askers.old ≡ free_seats posts.now }
     requires machine { IsMachine context.now.machine.now }
     requires net { IsNetOf context.now.machine.now context.now.net.now }
     requires recorded { IsRecorded context.now.machine.now recorder.now }
@@ -205,6 +217,7 @@ fn weave_in_order<R: Threads + Sync, G: Gate>(
     ensures taken { IfOk result (IsTakenIn (recorded_interval context.now.machine.now comps.old recorder.now) comps.old comps.new counters.old counters.new) }
     ensures recorded { OnOk result ((intervals : List Interval) → IsRecordingOf context.now.machine.now intervals recording.old → IsRecordingOf context.now.machine.now (intervals ++ recorded_interval context.now.machine.now comps.old recorder.now ∷ []) recording.new) }
     ensures on { is_on recording.new ≡ is_on recording.old }
+    ensures askers { askers.new ≡ askers.old }
 {
     let (alloc, machine) = (context.alloc, context.machine);
     let graph = recorded_events(alloc, machine, context.net, recorder, turns, order, comps)?;
@@ -215,8 +228,11 @@ fn weave_in_order<R: Threads + Sync, G: Gate>(
         &graph,
         comps,
         workers,
-        gate,
+        context.gate,
+        later,
         context.places,
+        posts,
+        askers,
         domains_are_worth,
     )?;
     let delays = take_in(

@@ -112,7 +112,8 @@ fn run_by_crew<R: Threads + Wait + Sync, G: Gate>(
     ensures in_order { IsKeptInOrder context.now.machine.now context.now.program.now schedule.new.lists }
     ensures cores { schedule.new.cores ≡ schedule.old.cores }
 {
-    let hired = usize::from(context.workers.min(context.machine.cores) - 1);
+    let most = context.machine.cores.max(context.machine.domains.count);
+    let hired = usize::from(context.workers.min(most) - 1);
     let crew = Crew::hire(context.alloc, hired)?;
     run_beside_them(context, simulation, crew, schedule, recording)
 }

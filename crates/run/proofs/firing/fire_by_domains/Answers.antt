@@ -9,8 +9,8 @@ use Rattle.component.specs.Serving.{comp_latency, comp_serves}
 use Rattle.event_graph.specs.Fits.{GraphFits}
 use Rattle.run.proofs.firing.fire_by_domains.Goals as goal
 
-pub weave-requires-clause-partitioned : goal.weave-requires-clause-partitioned
-weave-requires-clause-partitioned g c κs within =
+pub weave_by-requires-clause-partitioned : goal.weave_by-requires-clause-partitioned
+weave_by-requires-clause-partitioned g c κs within =
     let machine = c.args.machine.now in
     let split = c.in_ok-parts.ensures in
     let banks = machine.domains.banks in
