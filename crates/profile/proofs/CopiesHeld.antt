@@ -3,7 +3,7 @@ use Rattle.std.proofs.Common.{◌≡◌, ◌⊎◌, ℕ, zero, suc, ◌≤◌, �
 use Rattle.std.specs.Prelude.{slice_index_or}
 use Rattle.std.specs.List.{range_with_len}
 use Rattle.std.proofs.lemmas.Bool.{and_parts, cases_eq, cases_lt, eq-eqb, eqb-true, ne_eqb}
-use Rattle.std.proofs.lemmas.List.{get_or_past}
+use Rattle.std.proofs.lemmas.List.{get_or_past, length-replicate}
 use Rattle.std.proofs.lemmas.List.Folds.{list_any_at}
 use Rattle.std.proofs.lemmas.List.FromFn.{get_or-range_with_len, length-range_with_len}
 use Rattle.zs_num.specs.declared.entry.Entry.{Entry}
@@ -30,9 +30,9 @@ use Rattle.trace.specs.Trace.{Accessed, Ended, Executed, Step}
 use Rattle.profile.specs.declared.copies.CopyState.{CopyState}
 use Rattle.profile.specs.declared.copies.CopyState.TheVariants.{Never, Held, Gone}
 use Rattle.profile.specs.declared.copies.Leave.{Leave}
-use Rattle.profile.specs.declared.copies.Leave.TheVariants.{Coherence, Inclusion, Eviction}
 use Rattle.profile.specs.Copies.{Copies, changes_others, copies_after, copy_after, finds_none, invalidates, is_held, is_of, is_others, is_this, left, left_l2, made_room, no_copies, own_copy, when_taken, writes}
 use Rattle.profile.specs.Laws.{FindWhatIsHeld}
+use Rattle.profile.specs.MachineCopies.{AreOfCaches, StayOfCaches, behind, has_copy}
 
 -- ---- one copy
 
@@ -53,7 +53,7 @@ held_if_used false copy = refl
 abbrev held_by : (used taken room shared was : Bool) → Bool
 held_by used taken room shared was = if used then true else if taken then false else if room then false else if shared then false else was
 
-held_after : (e : Entry) (leaving : Leaving) (fetching : Bool) (core line : ℕ) (copy : CopyState)
+pub held_after : (e : Entry) (leaving : Leaving) (fetching : Bool) (core line : ℕ) (copy : CopyState)
     → let own = is_of (is_fetch e.request) e.core fetching core in let used = line_of e.request == line in
     is_held (copy_after e leaving fetching core line copy)
     ≡ held_by (own && used) (invalidates e && (is_others e.core fetching core && used)) (own && is_this leaving.own line) (is_this leaving.shared line) (is_held copy)
@@ -67,9 +67,9 @@ held_after e leaving fetching core line copy =
     let two = made_room own (is_this leaving.own line) one in
     let three = when_taken (invalidates e) (is_others e.core fetching core) used two in
     held_if_used (own && used) three
-    ∙ ap (λ (b : Bool). if own && used then true else b) (held_if_left Coherence taken two)
-    ∙ ap (λ (b : Bool). if own && used then true else if taken then false else b) (held_if_left Eviction room one)
-    ∙ ap (λ (b : Bool). if own && used then true else if taken then false else if room then false else b) (held_if_left Inclusion shared copy)
+    ∙ ap (λ (b : Bool). if own && used then true else b) (held_if_left _ taken two)
+    ∙ ap (λ (b : Bool). if own && used then true else if taken then false else b) (held_if_left _ room one)
+    ∙ ap (λ (b : Bool). if own && used then true else if taken then false else if room then false else b) (held_if_left _ shared copy)
 
 -- ---- by tests
 
@@ -123,20 +123,20 @@ same_instructions true true false false true false was = refl
 same_instructions true true false false false true was = refl
 same_instructions true true false false false false was = refl
 
-turned : (n m : ℕ) → (n == m) ≡ (m == n)
+pub turned : (n m : ℕ) → (n == m) ≡ (m == n)
 turned n m =
     elim (cases_eq n m) as (λ _. (n == m) ≡ (m == n)) [
       | inl same ↦ eq-eqb n m same ∙ sym (eq-eqb m n (sym same))
       | inr apart ↦ ne_eqb n m apart ∙ sym (ne_eqb m n (λ same. apart (sym same)))
     ]
 
-same_this : (other : Option ℕ) (line : ℕ) → is_this other line ≡ leaving_of_caches.is_this other line
+pub same_this : (other : Option ℕ) (line : ℕ) → is_this other line ≡ leaving_of_caches.is_this other line
 same_this None line = refl
 same_this (Some other) line = refl
 
 -- ---- who has a line that a write needs to invalidate nowhere
 
-same_write : (request : Request) → writes request ≡ is_write request
+pub same_write : (request : Request) → writes request ≡ is_write request
 same_write (Load width addr) = refl
 same_write (Store width addr value) = refl
 same_write (Lr width addr) = refl
@@ -144,7 +144,7 @@ same_write (Sc width paired addr value) = refl
 same_write (Amo width op addr value) = refl
 same_write (Fetch addr) = refl
 
-no_fetch : (request : Request) → is_write request ≡ true → is_fetch request ≡ false
+pub no_fetch : (request : Request) → is_write request ≡ true → is_fetch request ≡ false
 no_fetch (Load width addr) write = cc
 no_fetch (Store width addr value) write = refl
 no_fetch (Lr width addr) write = cc
@@ -152,7 +152,7 @@ no_fetch (Sc width paired addr value) write = refl
 no_fetch (Amo width op addr value) write = refl
 no_fetch (Fetch addr) write = cc
 
-met_of_write : (c : Caches) (core : ℕ) (request : Request) → is_write request ≡ true → outcome_of c core request ≡ met_at c core (line_of request) true
+pub met_of_write : (c : Caches) (core : ℕ) (request : Request) → is_write request ≡ true → outcome_of c core request ≡ met_at c core (line_of request) true
 unfolding outcome_of
 met_of_write c core request write = rw (no_fetch request write, write) refl
 
@@ -164,25 +164,25 @@ why_alone S in_l2 alone has dirty none = inr (inl none)
 why_alone I true alone has dirty none = inr (inl none)
 why_alone I false alone has dirty none = inr (inr refl)
 
-not_true : (b : Bool) → (b ≡ true → ⊥) → b ≡ false
+pub not_true : (b : Bool) → (b ≡ true → ⊥) → b ≡ false
 not_true true wrong = absurd (wrong refl)
 not_true false wrong = refl
 
 -- a core that is not there has no line
-none_past : (c : Caches) (core line : ℕ) → length c.l1 ≤ core → is_valid (letter_at c core line) ≡ false
+none_past : (test : Letter → Bool) → test I ≡ false → (c : Caches) (core line : ℕ) → length c.l1 ≤ core → test (letter_at c core line) ≡ false
 unfolding letter_at
-none_past c core line past = rw (get_or_past c.l1 core [] past) refl
+none_past test not c core line past = rw (get_or_past c.l1 core [] past) not
 
-some_has : (c : Caches) (core other line : ℕ) → (other ≡ core → ⊥) → is_valid (letter_at c other line) ≡ true → some_other is_valid c core line ≡ true
-some_has c core other line apart valid =
+pub some_has : (test : Letter → Bool) → test I ≡ false → (c : Caches) (core other line : ℕ) → (other ≡ core → ⊥) → test (letter_at c other line) ≡ true → some_other test c core line ≡ true
+some_has test not_there c core other line apart valid =
     elim (cases_lt other (length c.l1)) [
       | inl known ↦
           let cores : List ℕ = range_with_len 0 (length c.l1) in
-          let test : ℕ → Bool = λ k. not (k == core) && is_valid (letter_at c k line) in
-          let here : test other ≡ true = rw (ne_eqb other core apart) valid in
+          let passes : ℕ → Bool = λ k. not (k == core) && test (letter_at c k line) in
+          let here : passes other ≡ true = rw (ne_eqb other core apart) valid in
           let at : slice_index_or cores other 0 ≡ other = get_or-range_with_len 0 (length c.l1) other 0 known ∙ omega arith in
-          list_any_at test cores other 0 (omega (arith, known, length-range_with_len 0 (length c.l1))) (ap test at ∙ here)
-      | inr past ↦ let none = none_past c other line past in cc
+          list_any_at passes cores other 0 (omega (arith, known, length-range_with_len 0 (length c.l1))) (ap passes at ∙ here)
+      | inr past ↦ let none = none_past test not_there c other line past in cc
     ]
 
 pub alone_after : (c : Caches) (core : ℕ) (request : Request) → AreCoherent c → is_write request ≡ true → changes_others (outcome_of c core request) ≡ false
@@ -194,7 +194,7 @@ alone_after c core request coherent write none other apart =
     elim why [
       | inl alone ↦ ap is_valid (coherent.single core other line apart alone)
       | inr rest ↦ (elim rest [
-        | inl has ↦ not_true (is_valid (letter_at c other line)) (λ valid. let some = some_has c core other line apart valid in cc)
+        | inl has ↦ not_true (is_valid (letter_at c other line)) (λ valid. let some = some_has is_valid refl c core other line apart valid in cc)
         | inr absent ↦ not_true (is_valid (letter_at c other line)) (λ valid. let there = coherent.inclusive other line valid in cc)
       ])
     ]
@@ -205,8 +205,7 @@ alone_after c core request coherent write none other apart =
 pub record AreOf (copies : Copies) (c : Caches) : Type 0 where
   pub coherent : AreCoherent c
   pub room : HaveRoomForLines c
-  pub letters : (core line : ℕ) → is_held (copies false core line) ≡ is_valid (letter_at c core line)
-  pub instructions : (core line : ℕ) → is_held (copies true core line) ≡ fetch_holds c core line
+  pub are : AreOfCaches copies c
 
 found_fetch : (held in_l2 dirty : Bool) → held ≡ not (finds_none (fetch_outcome_by held in_l2 dirty))
 found_fetch true in_l2 dirty = refl
@@ -225,7 +224,7 @@ found_data true S in_l2 alone has dirty = refl
 found_data true I true alone has dirty = refl
 found_data true I false alone has dirty = refl
 
-outcome_is : (c : Caches) (core : ℕ) (request : Request) → outcome_of c core request ≡ (if is_fetch request then fetch_met_at c core (line_of request) else met_at c core (line_of request) (is_write request))
+pub outcome_is : (c : Caches) (core : ℕ) (request : Request) → outcome_of c core request ≡ (if is_fetch request then fetch_met_at c core (line_of request) else met_at c core (line_of request) (is_write request))
 unfolding outcome_of
 outcome_is c core request = refl
 
@@ -234,9 +233,9 @@ module _ (copies : Copies) (c : Caches) (of : AreOf copies c) (e : Entry) where
   line = line_of e.request
 
   found_by : (fetch : Bool) → is_held (copies fetch e.core line) ≡ not (finds_none (if fetch then fetch_met_at c e.core line else met_at c e.core line (is_write e.request)))
-  found_by true = of.instructions e.core line ∙ found_fetch (fetch_holds c e.core line) (is_some (dirty_at c line)) (is_dirty_victim c (l2_victim c line))
+  found_by true = of.are true e.core line ∙ found_fetch (fetch_holds c e.core line) (is_some (dirty_at c line)) (is_dirty_victim c (l2_victim c line))
   found_by false =
-      of.letters e.core line
+      of.are false e.core line
       ∙ found_data (is_write e.request) (letter_at c e.core line) (is_some (dirty_at c line)) (some_other is_alone c e.core line) (some_other is_valid c e.core line) (is_dirty_victim c (l2_victim c line))
 
   pub found : e.outcome ≡ outcome_of c e.core e.request → is_held (own_copy copies e) ≡ not (finds_none e.outcome)
@@ -261,7 +260,7 @@ module _ (copies : Copies) (c : Caches) (of : AreOf copies c) (e : Entry) where
         let changes : changes_others (outcome_of c e.core e.request) ≡ false = ap changes_others (sym met.outcome) ∙ takes_none (writes e.request) (changes_others e.outcome) (same_write e.request ∙ write) none in
         let apart : core ≡ e.core → ⊥ = λ same. let is : (e.core == core) ≡ true = eq-eqb e.core core (sym same) in cc in
         let same : line ≡ l = eqb-true line l used in
-        subst (λ (n : ℕ). is_held (copies false core n) ≡ false) same (of.letters core line ∙ alone_after c e.core e.request of.coherent write changes core apart)
+        subst (λ (n : ℕ). is_held (copies false core n) ≡ false) same (of.are false core line ∙ alone_after c e.core e.request of.coherent write changes core apart)
 
     data_behind : CopiesBehind → (core l : ℕ) → is_held (copies_after e leaving copies false core l) ≡ is_valid (letter_at (caches_after c e.core e.request) core l)
     data_behind law core l =
@@ -276,7 +275,7 @@ module _ (copies : Copies) (c : Caches) (of : AreOf copies c) (e : Entry) where
         ∙ ap (λ (b : Bool). behind_data (core == e.core) b own shared was) (turned line l)
         ∙ ap (λ (b : Bool). behind_data (core == e.core) (l == line) b shared was) (same_this leaving.own l)
         ∙ ap (λ (b : Bool). behind_data (core == e.core) (l == line) (leaving_of_caches.is_this leaving.own l) b was) (same_this leaving.shared l)
-        ∙ ap (λ (b : Bool). copy_behind b leaving e.core e.request core l) (of.letters core l)
+        ∙ ap (λ (b : Bool). copy_behind b leaving e.core e.request core l) (of.are false core l)
         ∙ ap (λ (x : Leaving). copy_behind (is_valid (letter_at c core l)) x e.core e.request core l) met.leaves
         ∙ sym (law c e.core e.request of.coherent of.room met.known core l)
 
@@ -297,9 +296,13 @@ module _ (copies : Copies) (c : Caches) (of : AreOf copies c) (e : Entry) where
         ∙ ap (λ (b : Bool). behind_instructions (core == e.core) b own shared was) (turned line l)
         ∙ ap (λ (b : Bool). behind_instructions (core == e.core) (l == line) b shared was) (same_this leaving.own l)
         ∙ ap (λ (b : Bool). behind_instructions (core == e.core) (l == line) (leaving_of_caches.is_this leaving.own l) b was) (same_this leaving.shared l)
-        ∙ ap (λ (b : Bool). instructions_behind b leaving e.core e.request core l) (of.instructions core l)
+        ∙ ap (λ (b : Bool). instructions_behind b leaving e.core e.request core l) (of.are true core l)
         ∙ ap (λ (x : Leaving). instructions_behind (fetch_holds c core l) x e.core e.request core l) met.leaves
         ∙ sym (law c e.core e.request of.coherent of.room met.known met.fetches core l)
+
+    both : CopiesBehind → InstructionsBehind → (fetching : Bool) (core l : ℕ) → is_held (copies_after e leaving copies fetching core l) ≡ has_copy (behind c e) fetching core l
+    both letters instructions true core l = instructions_are_behind instructions core l
+    both letters instructions false core l = data_behind letters core l
 
     pub still_of : CoherentStays → CopiesBehind → InstructionsBehind → AreOf (copies_after e leaving copies) (caches_after c e.core e.request)
     still_of stays letters instructions =
@@ -307,8 +310,7 @@ module _ (copies : Copies) (c : Caches) (of : AreOf copies c) (e : Entry) where
         record {
           coherent = still.0;
           room = still.1;
-          letters = data_behind letters;
-          instructions = instructions_are_behind instructions;
+          are = λ fetching core l. both letters instructions fetching core l;
         }
 
 -- ---- all steps
@@ -321,6 +323,15 @@ find_what_is_held stays letters instructions copies c (Accessed pc e leaving ∷
   find_what_is_held stays letters instructions (copies_after e leaving copies) (caches_after c e.core e.request) steps (still_of copies c of e leaving met.0 stays letters instructions) met.1,
 )
 find_what_is_held stays letters instructions copies c (Ended interval ∷ steps) of met = find_what_is_held stays letters instructions copies c steps of met
+
+pub stay_of_caches : CoherentStays → CopiesBehind → InstructionsBehind → (copies : Copies) (c : Caches) (steps : List Step) → AreOf copies c → AreMetBy c steps → StayOfCaches copies c steps
+stay_of_caches stays letters instructions copies c [] of met = of.are
+stay_of_caches stays letters instructions copies c (Executed core pc ∷ steps) of met = stay_of_caches stays letters instructions copies c steps of met
+stay_of_caches stays letters instructions copies c (Accessed pc e leaving ∷ steps) of met = (
+  of.are,
+  stay_of_caches stays letters instructions (copies_after e leaving copies) (caches_after c e.core e.request) steps (still_of copies c of e leaving met.0 stays letters instructions) met.1,
+)
+stay_of_caches stays letters instructions copies c (Ended interval ∷ steps) of met = stay_of_caches stays letters instructions copies c steps of met
 
 -- ---- before the first access
 
@@ -336,6 +347,10 @@ clean_nowhere : (machine : Machine) (line : ℕ) → dirty_at (new_caches machin
 unfolding dirty_at
 clean_nowhere machine line = ap (kept_of line) (empty_at machine.l2.sets _)
 
+-- its cores each have a data cache
+pub new_cores : (machine : Machine) → length (new_caches machine).l1 ≡ machine.cores
+new_cores machine = length-replicate machine.cores _
+
 pub none_at_first : NewShardsStand → (machine : Machine) (image : MemoryImage) → IsMachine machine → AreOf no_copies (new_caches machine)
 none_at_first stand machine image is =
     let c : Caches = new_caches machine in
@@ -343,6 +358,9 @@ none_at_first stand machine image is =
     record {
       coherent = new.coherent;
       room = new.room;
-      letters = λ core line. sym (not_true (is_valid (letter_at c core line)) (λ valid. let there = new.coherent.inclusive core line valid in let none = clean_nowhere machine line in cc));
-      instructions = λ core line. sym (not_true (fetch_holds c core line) (λ holds. let there = new.coherent.l1i_inclusive core line holds in let none = clean_nowhere machine line in cc));
+      are = λ fetching core line. sym (not_true (has_copy c fetching core line) (λ there. absurd (none_new new.coherent fetching core line there)));
     }
+  where
+    none_new : AreCoherent (new_caches machine) → (fetching : Bool) (core line : ℕ) → has_copy (new_caches machine) fetching core line ≡ true → ⊥
+    none_new coherent true core line holds = let there = coherent.l1i_inclusive core line holds in let none = clean_nowhere machine line in cc
+    none_new coherent false core line valid = let there = coherent.inclusive core line valid in let none = clean_nowhere machine line in cc

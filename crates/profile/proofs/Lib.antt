@@ -14,6 +14,7 @@ pub mod LinesTold
 pub mod Listing
 pub mod Lists
 pub mod Numbered
+pub mod OthersCopies
 pub mod PartsMore
 pub mod Passed
 pub mod Right
@@ -30,3 +31,4 @@ pub mod Suffering
 pub mod SumRows
 pub mod Waited
 pub mod WaitsAddUp
+pub mod WhyLeft

@@ -11,6 +11,7 @@ use Rattle.stats.specs.declared.counts.CoreCount.{CoreCount}
 use Rattle.event_graph.specs.AccessPaths.{path_of}
 use Rattle.stats.specs.Counted.{core_sum}
 use Rattle.stats.specs.CountsFit.{CoreFits}
+use Rattle.shard.specs.NewCaches.{new_caches}
 use Rattle.reference.specs.ReferenceRun.{IsRunOf, time_of}
 use Rattle.reference.specs.Results.{Results}
 use Rattle.reference.specs.TimedCore.{TimedCore}
@@ -26,6 +27,7 @@ use Rattle.profile.specs.Copies.{Copies, copies_after, finds_none, is_held, no_c
 use Rattle.profile.specs.Intervals.{all_waits}
 use Rattle.profile.specs.Profiled.{Profiled, series_in}
 use Rattle.profile.specs.Listed.{AreCoreRows, AreLineRows, AreSumRows}
+use Rattle.profile.specs.MachineCopies.{LeaveForReasons, OfEachAccess, StayOfCaches, TellsOfOthers}
 use Rattle.profile.specs.Series.{SeriesSums}
 
 -- what the steps of a run on a machine add to a profile
@@ -103,6 +105,26 @@ abbrev pub WaitsAreOfComponents : Type 0
 WaitsAreOfComponents = (machine : Machine) (image : MemoryImage) (lists : List (List ℕ)) (steps : List Step) (results : Results) → IsMachine machine
     → IsTraceOf machine image lists steps → IsRunOf machine image lists results → length results.counts.comp_counts ≡ component_count machine
     → (total (map (λ c. c.tally) (run_contributions machine steps))).waited ≡ sum_by (λ c. c.waited) results.counts.comp_counts
+
+-- ---- copies
+
+-- The copies that the steps of a run tell are those of its machine's caches, before each access and behind the last.
+abbrev pub CopiesAreOfCaches : Type 0
+CopiesAreOfCaches = (machine : Machine) (image : MemoryImage) (lists : List (List ℕ)) (steps : List Step) (results : Results) → IsMachine machine → IsSoundImage image
+    → IsTraceOf machine image lists steps → IsRunOf machine image lists results
+    → StayOfCaches no_copies (new_caches machine) steps
+
+-- Each access tells of the other cores' copies what it did to them in these caches,
+abbrev pub OthersCopiesAreTold : Type 0
+OthersCopiesAreTold = (machine : Machine) (image : MemoryImage) (lists : List (List ℕ)) (steps : List Step) (results : Results) → IsMachine machine → IsSoundImage image
+    → IsTraceOf machine image lists steps → IsRunOf machine image lists results
+    → OfEachAccess (λ copies c e leaving. TellsOfOthers machine.cores copies c e) no_copies (new_caches machine) steps
+
+-- and why the copies left that it took away.
+abbrev pub CopiesLeaveForReasons : Type 0
+CopiesLeaveForReasons = (machine : Machine) (image : MemoryImage) (lists : List (List ℕ)) (steps : List Step) (results : Results) → IsMachine machine → IsSoundImage image
+    → IsTraceOf machine image lists steps → IsRunOf machine image lists results
+    → OfEachAccess LeaveForReasons no_copies (new_caches machine) steps
 
 -- ---- classes
 

@@ -5,6 +5,7 @@ pub mod Executed
 pub mod Intervals
 pub mod Laws
 pub mod Listed
+pub mod MachineCopies
 pub mod Makers
 pub mod Parts
 pub mod Profiled

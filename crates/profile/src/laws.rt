@@ -1,5 +1,5 @@
 //! Laws over the definitions alone, each the contract of a function that does nothing.
-ghost use Rattle.profile.specs.Laws.{AddressRowsAddUp, ClassesAddUp, CopiesAreTheMachines, CoreCountersAddUp, LineRowsAddUp, SeriesAddsUp, SumRowsAddUp, WaitsAddUp, WaitsAreOfComponents};
+ghost use Rattle.profile.specs.Laws.{AddressRowsAddUp, ClassesAddUp, CopiesAreOfCaches, CopiesAreTheMachines, CopiesLeaveForReasons, CoreCountersAddUp, LineRowsAddUp, OthersCopiesAreTold, SeriesAddsUp, SumRowsAddUp, WaitsAddUp, WaitsAreOfComponents};
 
 use trace::laws::{
     accesses_are_met, accesses_are_of_intervals, instructions_are_told, intervals_are_the_runs,
@@ -39,6 +39,19 @@ pub fn waits_add_up()
     noc_mesh::laws::net_graphs_fit();
     accesses_are_of_intervals();
     intervals_are_the_runs();
+}
+
+/// What the steps say of each copy is what the machine's caches do: which copies there are, what an
+/// access does to those of other cores, and why a copy leaves.
+pub fn copies_are_those_of_caches()
+    ensures held { CopiesAreOfCaches }
+    ensures others { OthersCopiesAreTold }
+    ensures reasons { CopiesLeaveForReasons }
+{
+    shard::laws::coherence_stays();
+    shard::laws::copies_behind();
+    shard::laws::new_shards_stand();
+    accesses_are_met();
 }
 
 /// What the steps say of a core's copies is what its caches have. So each access that finds no copy
