@@ -31,4 +31,6 @@ pub mod Suffering
 pub mod SumRows
 pub mod Waited
 pub mod WaitsAddUp
+pub mod WaitsShared
+pub mod WhoWaits
 pub mod WhyLeft

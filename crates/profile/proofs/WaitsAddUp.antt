@@ -57,16 +57,16 @@ waits_behind before (step ∷ steps) = step_waits before step ++ waits_behind (a
 
 -- ---- the events of an interval
 
-hits_make_none : (path : AccessPath) (e : Entry) (outcome : Outcome) → is_hit outcome ≡ true → (passage path e outcome).pieces ≡ []
+pub hits_make_none : (path : AccessPath) (e : Entry) (outcome : Outcome) → is_hit outcome ≡ true → (passage path e outcome).pieces ≡ []
 hits_make_none path e Hit is = refl
 hits_make_none path e (Upgrade others) is = cc
 hits_make_none path e (L2 others) is = cc
 hits_make_none path e (Miss dirty) is = cc
 
-no_hit : (outcome : Outcome) → is_hit outcome ≡ false → outcome ≡ Hit → ⊥
+pub no_hit : (outcome : Outcome) → is_hit outcome ≡ false → outcome ≡ Hit → ⊥
 no_hit outcome not is = let hit : is_hit outcome ≡ true = ap is_hit is in cc
 
-same_first : (events : List Event) (fired : List Fired) → length fired ≡ length events → map (λ x. x.0) (zip events fired) ≡ events
+pub same_first : (events : List Event) (fired : List Fired) → length fired ≡ length events → map (λ x. x.0) (zip events fired) ≡ events
 same_first [] fired long = refl
 same_first (e ∷ events) [] long = absurd (omega (arith, long))
 same_first (e ∷ events) (f ∷ fired) long = ap (λ (es : List Event). e ∷ es) (same_first events fired (omega (arith, long)))

@@ -22,13 +22,14 @@ use Rattle.profile_rows.specs.declared.line_row.LineRow.{LineRow}
 use Rattle.profile_rows.specs.declared.tally.Tally.{Tally}
 use Rattle.profile_rows.specs.Tallies.{total}
 use Rattle.profile.specs.declared.contribution.Contribution.{Contribution}
-use Rattle.profile.specs.Contributions.{contributions, tally_of}
+use Rattle.profile.specs.Contributions.{contributions, nothing_before, tally_of}
 use Rattle.profile.specs.Copies.{Copies, copies_after, finds_none, is_held, no_copies, own_copy}
 use Rattle.profile.specs.Intervals.{all_waits}
 use Rattle.profile.specs.Profiled.{Profiled, series_in}
 use Rattle.profile.specs.Listed.{AreCoreRows, AreLineRows, AreSumRows}
 use Rattle.profile.specs.MachineCopies.{LeaveForReasons, OfEachAccess, StayOfCaches, TellsOfOthers}
 use Rattle.profile.specs.Series.{SeriesSums}
+use Rattle.profile.specs.SharedOut.{EachSharesOut}
 
 -- what the steps of a run on a machine add to a profile
 abbrev pub run_contributions : Machine → List Step → List Contribution
@@ -105,6 +106,12 @@ abbrev pub WaitsAreOfComponents : Type 0
 WaitsAreOfComponents = (machine : Machine) (image : MemoryImage) (lists : List (List ℕ)) (steps : List Step) (results : Results) → IsMachine machine
     → IsTraceOf machine image lists steps → IsRunOf machine image lists results → length results.counts.comp_counts ≡ component_count machine
     → (total (map (λ c. c.tally) (run_contributions machine steps))).waited ≡ sum_by (λ c. c.waited) results.counts.comp_counts
+
+-- Of each core, the waits of each interval are shared out to its accesses, in the order in which it made them.
+abbrev pub WaitsAreSharedOut : Type 0
+WaitsAreSharedOut = (machine : Machine) (image : MemoryImage) (lists : List (List ℕ)) (steps : List Step) (results : Results) → IsMachine machine
+    → IsTraceOf machine image lists steps → IsRunOf machine image lists results
+    → EachSharesOut (path_of machine) machine.cores [] nothing_before steps
 
 -- ---- copies
 

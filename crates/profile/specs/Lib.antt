@@ -11,4 +11,5 @@ pub mod Parts
 pub mod Profiled
 pub mod Rows
 pub mod Series
+pub mod SharedOut
 pub mod Waits

@@ -1,5 +1,5 @@
 //! Laws over the definitions alone, each the contract of a function that does nothing.
-ghost use Rattle.profile.specs.Laws.{AddressRowsAddUp, ClassesAddUp, CopiesAreOfCaches, CopiesAreTheMachines, CopiesLeaveForReasons, CoreCountersAddUp, LineRowsAddUp, OthersCopiesAreTold, SeriesAddsUp, SumRowsAddUp, WaitsAddUp, WaitsAreOfComponents};
+ghost use Rattle.profile.specs.Laws.{AddressRowsAddUp, ClassesAddUp, CopiesAreOfCaches, CopiesAreTheMachines, CopiesLeaveForReasons, CoreCountersAddUp, LineRowsAddUp, OthersCopiesAreTold, SeriesAddsUp, SumRowsAddUp, WaitsAddUp, WaitsAreOfComponents, WaitsAreSharedOut};
 
 use trace::laws::{
     accesses_are_met, accesses_are_of_intervals, instructions_are_told, intervals_are_the_runs,
@@ -39,6 +39,15 @@ pub fn waits_add_up()
     noc_mesh::laws::net_graphs_fit();
     accesses_are_of_intervals();
     intervals_are_the_runs();
+}
+
+/// Of the events of an interval each core's own wait for its accesses in order, and each access
+/// has the waits of as many events as it makes.
+pub fn waits_are_shared_out()
+    ensures { WaitsAreSharedOut }
+{
+    noc_mesh::laws::net_accesses_beyond_hits_have_events();
+    accesses_are_of_intervals();
 }
 
 /// What the steps say of each copy is what the machine's caches do: which copies there are, what an
