@@ -53,7 +53,7 @@ each_core_once n k =
 abbrev IsKnown : (cores : ℕ) → Entry → Type 0
 IsKnown cores e = e.core < cores
 
-known_from : (machine : Machine) (so_far : List Entry) (steps : List Step) → EndBehindTheirAccesses machine so_far steps → All (IsKnown machine.cores) (so_far ++ accessed_in steps)
+pub known_from : (machine : Machine) (so_far : List Entry) (steps : List Step) → EndBehindTheirAccesses machine so_far steps → All (IsKnown machine.cores) (so_far ++ accessed_in steps)
 known_from machine so_far [] ends = subst (λ (es : List Entry). All (IsKnown machine.cores) (es ++ [])) (sym ends) (All-nil (IsKnown machine.cores))
 known_from machine so_far (Executed core pc ∷ steps) ends = known_from machine so_far steps ends
 known_from machine so_far (Accessed pc e leaving ∷ steps) ends =

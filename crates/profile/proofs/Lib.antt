@@ -20,6 +20,8 @@ pub mod Passed
 pub mod Right
 pub mod RowsAddUp
 pub mod RowsMore
+pub mod RowsWait
+pub mod RunWaits
 pub mod SeriesAddUp
 pub mod SeriesCounts
 pub mod SeriesLong

@@ -167,7 +167,7 @@ picks_one f core a (suc n) low high =
           )
     ]
 
-sum_by-flat_map : {X Y : Type 0} (count : Y → ℕ) (make : X → List Y) (xs : List X) → sum_by count (flat_map make xs) ≡ sum_by (λ x. sum_by count (make x)) xs
+pub sum_by-flat_map : {X Y : Type 0} (count : Y → ℕ) (make : X → List Y) (xs : List X) → sum_by count (flat_map make xs) ≡ sum_by (λ x. sum_by count (make x)) xs
 sum_by-flat_map count make [] = refl
 sum_by-flat_map count make (x ∷ xs) =
     omega (arith, sum_by-append count (make x) (flat_map make xs), sum_by-flat_map count make xs, sum_by-cons (λ y. sum_by count (make y)) x xs)

@@ -57,7 +57,7 @@ turned_sum f ks (n ∷ ns) =
       sum_of_both (λ k. f k n) (λ k. sum_by (λ m. f k m) ns) ks,
     )
 
-same_in_range : (f g : ℕ → ℕ) (a n : ℕ) → ((k : ℕ) → a ≤ k → k < a + n → f k ≡ g k) → sum_by f (range_with_len a n) ≡ sum_by g (range_with_len a n)
+pub same_in_range : (f g : ℕ → ℕ) (a n : ℕ) → ((k : ℕ) → a ≤ k → k < a + n → f k ≡ g k) → sum_by f (range_with_len a n) ≡ sum_by g (range_with_len a n)
 same_in_range f g a zero same = refl
 same_in_range f g a (suc n) same =
     omega (

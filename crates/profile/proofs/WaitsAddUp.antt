@@ -142,15 +142,15 @@ module _ (sorts : RecordedOrderSorts) (beyond : NetAccessesBeyondHitsHaveEvents)
 
 -- ---- contributions
 
-is_waited : IsSum (λ t. t.waited)
+pub is_waited : IsSum (λ t. t.waited)
 unfolding plus
 is_waited = record { none = refl; both = λ a b. refl }
 
-unwaited : (e : Entry) (copy : CopyState) (taken cycles : ℕ) → (access_tally e copy taken cycles).waited ≡ 0
+pub unwaited : (e : Entry) (copy : CopyState) (taken cycles : ℕ) → (access_tally e copy taken cycles).waited ≡ 0
 unfolding access_tally
 unwaited e copy taken cycles = refl
 
-unwaited_suffering : (e : Entry) → (suffered_tally e).waited ≡ 0
+pub unwaited_suffering : (e : Entry) → (suffered_tally e).waited ≡ 0
 unfolding suffered_tally
 unwaited_suffering e = refl
 

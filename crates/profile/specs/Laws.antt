@@ -26,7 +26,7 @@ use Rattle.profile.specs.Contributions.{contributions, nothing_before, tally_of}
 use Rattle.profile.specs.Copies.{Copies, copies_after, finds_none, is_held, no_copies, own_copy}
 use Rattle.profile.specs.Intervals.{all_waits}
 use Rattle.profile.specs.Profiled.{Profiled, series_in}
-use Rattle.profile.specs.Listed.{AreCoreRows, AreLineRows, AreSumRows}
+use Rattle.profile.specs.Listed.{AreAddressRows, AreCoreRows, AreLineRows, AreSumRows}
 use Rattle.profile.specs.MachineCopies.{LeaveForReasons, OfEachAccess, StayOfCaches, TellsOfOthers}
 use Rattle.profile.specs.Series.{SeriesSums}
 use Rattle.profile.specs.SharedOut.{EachSharesOut}
@@ -112,6 +112,23 @@ abbrev pub WaitsAreSharedOut : Type 0
 WaitsAreSharedOut = (machine : Machine) (image : MemoryImage) (lists : List (List ℕ)) (steps : List Step) (results : Results) → IsMachine machine
     → IsTraceOf machine image lists steps → IsRunOf machine image lists results
     → EachSharesOut (path_of machine) machine.cores [] nothing_before steps
+
+-- The rows of addresses, of each core apart or of all cores together, tell all waits of the banks, the controllers and the
+-- links, where these fit in 128 bits.
+abbrev pub AddressRowsWait : Type 0
+AddressRowsWait = (machine : Machine) (image : MemoryImage) (lists : List (List ℕ)) (steps : List Step) (results : Results) → IsMachine machine → IsSoundImage image
+    → IsTraceOf machine image lists steps → IsRunOf machine image lists results → length results.counts.comp_counts ≡ component_count machine
+    → sum_by (λ c. c.waited) results.counts.comp_counts < 2 ^ 128
+    → (p : Profiled) → IsProfileOf machine steps p → (separate : Bool) (rows : List AddressRow) → AreAddressRows p separate rows
+    → (total (map (λ row. row.tally) rows)).waited ≡ sum_by (λ c. c.waited) results.counts.comp_counts
+
+-- and so do the rows of lines
+abbrev pub LineRowsWait : Type 0
+LineRowsWait = (machine : Machine) (image : MemoryImage) (lists : List (List ℕ)) (steps : List Step) (results : Results) → IsMachine machine → IsSoundImage image
+    → IsTraceOf machine image lists steps → IsRunOf machine image lists results → length results.counts.comp_counts ≡ component_count machine
+    → sum_by (λ c. c.waited) results.counts.comp_counts < 2 ^ 128
+    → (p : Profiled) → IsProfileOf machine steps p → (rows : List LineRow) → AreLineRows p rows
+    → (total (map (λ row. row.tally) rows)).waited ≡ sum_by (λ c. c.waited) results.counts.comp_counts
 
 -- ---- copies
 

@@ -1,5 +1,5 @@
 //! Laws over the definitions alone, each the contract of a function that does nothing.
-ghost use Rattle.profile.specs.Laws.{AddressRowsAddUp, ClassesAddUp, CopiesAreOfCaches, CopiesAreTheMachines, CopiesLeaveForReasons, CoreCountersAddUp, LineRowsAddUp, OthersCopiesAreTold, SeriesAddsUp, SumRowsAddUp, WaitsAddUp, WaitsAreOfComponents, WaitsAreSharedOut};
+ghost use Rattle.profile.specs.Laws.{AddressRowsAddUp, AddressRowsWait, ClassesAddUp, CopiesAreOfCaches, CopiesAreTheMachines, CopiesLeaveForReasons, CoreCountersAddUp, LineRowsAddUp, LineRowsWait, OthersCopiesAreTold, SeriesAddsUp, SumRowsAddUp, WaitsAddUp, WaitsAreOfComponents, WaitsAreSharedOut};
 
 use trace::laws::{
     accesses_are_met, accesses_are_of_intervals, instructions_are_told, intervals_are_the_runs,
@@ -48,6 +48,17 @@ pub fn waits_are_shared_out()
 {
     noc_mesh::laws::net_accesses_beyond_hits_have_events();
     accesses_are_of_intervals();
+}
+
+/// The rows of addresses of all cores tell together how long the components had events wait, and so
+/// do the rows of lines.
+pub fn rows_wait()
+    ensures addresses { AddressRowsWait }
+    ensures lines { LineRowsWait }
+{
+    waits_add_up();
+    accesses_are_of_intervals();
+    steps_fit();
 }
 
 /// What the steps say of each copy is what the machine's caches do: which copies there are, what an
