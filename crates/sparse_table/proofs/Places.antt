@@ -35,6 +35,9 @@ module _ {T : Type 0} where
         ap (λ v. unwrap_or v none) (kept ∙ get_or_default (f x).1 place o None within)
         ∙ ap (λ (p : ℕ × List (Option T)). unwrap_or (get_or p.1 place None) none) (sym read_at)
 
+    pub kept_there : (place : ℕ) (none : T) → unwrap_or (get_or (f x).1 place None) none ≡ kept_at none i place (map f xs)
+    kept_there place none = ap (λ (p : ℕ × List (Option T)). unwrap_or (get_or p.1 place None) none) (sym read_at)
+
     -- a value that is put there
     pub put_is : (place : ℕ) (y : X) (value : T) → f y ≡ with_place place value (f x) → map f (set xs i y) ≡ put_at i place value (map f xs)
     put_is place y value now = map-set f xs i y ∙ ap (λ p. set (map f xs) i p) (now ∙ ap (λ p. with_place place value p) (sym read_at))

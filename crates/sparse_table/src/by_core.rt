@@ -2,7 +2,7 @@
 ghost use Rattle.std.specs.Prelude.{◌≡◌, ℕ, ◌<◌, ◌≤◌, ◌^◌, IfSome, OnErr, OnOk, length};
 ghost use Rattle.sparse_table.specs.ByCore.{HaveNone, IsNextSet, value_at, with_one};
 
-use crate::{SparseTable, laws};
+use crate::{Change, SparseTable, laws};
 use std::alloc::Global;
 use zs_num::NoMemory;
 
@@ -59,6 +59,50 @@ pub fn set_there<T: Copy>(
     laws::others_stay::<T>();
     let table = &mut tables[core];
     table.set(number, value)?;
+    Ok(())
+}
+
+/// Changes what a core has at a number, where it is. Where memory runs out, all values are as they
+/// were.
+#[inline(always)]
+pub fn change_at<T: Copy, C: Change<T>>(
+    alloc: Global,
+    tables: &mut Vec<SparseTable<T>>,
+    none: T,
+    core: u16,
+    number: u64,
+    by: &C,
+) -> Result<(), NoMemory>
+    ensures ok { OnOk result ((c n : ℕ) → value_at none tables.new.items c n ≡ with_one core number (C.changed by.now (value_at none tables.old.items core number)) (value_at none tables.old.items) c n) }
+    ensures err { OnErr result ((c n : ℕ) → value_at none tables.new.items c n ≡ value_at none tables.old.items c n) }
+    ensures none { HaveNone none tables.old.items → HaveNone none tables.new.items }
+{
+    let core = usize::from(core);
+    if core >= tables.len() {
+        add_tables(alloc, tables, none, core)?;
+    }
+    change_there(tables, none, core, number, by)
+}
+
+/// The same of a core whose table is there.
+#[inline(always)]
+pub fn change_there<T: Copy, C: Change<T>>(
+    tables: &mut Vec<SparseTable<T>>,
+    none: T,
+    core: usize,
+    number: u64,
+    by: &C,
+) -> Result<(), NoMemory>
+    requires { core < length tables.old.items }
+    ensures ok { OnOk result ((c n : ℕ) → value_at none tables.new.items c n ≡ with_one core number (C.changed by.now (value_at none tables.old.items core number)) (value_at none tables.old.items) c n) }
+    ensures err { OnErr result ((c n : ℕ) → value_at none tables.new.items c n ≡ value_at none tables.old.items c n) }
+    ensures count { length tables.new.items ≡ length tables.old.items }
+    ensures none { HaveNone none tables.old.items → HaveNone none tables.new.items }
+{
+    laws::set_gives_back::<T>();
+    laws::others_stay::<T>();
+    let table = &mut tables[core];
+    table.change(number, by)?;
     Ok(())
 }
 

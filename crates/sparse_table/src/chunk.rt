@@ -1,8 +1,10 @@
 //! The values of 64 numbers in a row.
-ghost use Rattle.std.specs.Prelude.{◌≡◌, ◌+◌, ◌<◌, ◌≤◌, ◌^◌, ◌↔◌, count_by, is_some, IfOk, IsTrue, None, Some, replicate, slice_set, length, map};
+ghost use Rattle.std.specs.Prelude.{◌≡◌, ◌+◌, ◌<◌, ◌≤◌, ◌^◌, ◌↔◌, count_by, is_some, IfOk, IsTrue, None, Some, replicate, slice_index_or, slice_set, length, map};
+ghost use Rattle.std.specs.Option.{unwrap_or};
 ghost use Rattle.sparse_table.specs.Chunks.{AreChunks, IsAt, IsPlace, entries_at, kept_at, put_at};
 ghost use Rattle.sparse_table.specs.Sparse.{entries_from, first_number};
 
+use crate::Change;
 use std::alloc::{AllocError, Global};
 
 /// How many numbers a chunk has.
@@ -80,6 +82,48 @@ pub(crate) fn put<T: Copy>(chunks: &mut Vec<Chunk<T>>, at: usize, place: usize, 
 {
     let chunk = &mut chunks[at];
     chunk.values[place] = Some(value);
+}
+
+/// Changes what the chunk at a place has, or gives it what `none` becomes.
+#[inline(always)]
+pub(crate) fn change<T: Copy, C: Change<T>>(
+    chunks: &mut Vec<Chunk<T>>,
+    at: usize,
+    place: usize,
+    none: T,
+    by: &C,
+)
+    requires chunks { AreChunks 0 (map (λ c. (c.number, c.values.items)) chunks.old.items) }
+    requires at { at < length chunks.old.items }
+    requires place { place < 64 }
+    ensures { map (λ c. (c.number, c.values.items)) chunks.new.items ≡ put_at at place (C.changed by.now (kept_at none at place (map (λ c. (c.number, c.values.items)) chunks.old.items))) (map (λ c. (c.number, c.values.items)) chunks.old.items) }
+{
+    let chunk = &mut chunks[at];
+    change_in(&mut chunk.values, place, none, by);
+}
+
+/// The same of the values of a chunk.
+#[inline(always)]
+fn change_in<T: Copy, C: Change<T>>(values: &mut Vec<Option<T>>, place: usize, none: T, by: &C)
+    requires { place < length values.old.items }
+    ensures { values.new.items ≡ slice_set values.old.items place (Some (C.changed by.now (unwrap_or (slice_index_or values.old.items place None) none))) }
+{
+    change_one(&mut values[place], none, by);
+}
+
+/// The same of one value.
+#[inline(always)]
+fn change_one<T: Copy, C: Change<T>>(slot: &mut Option<T>, none: T, by: &C)
+    ensures { slot.new ≡ Some (C.changed by.now (unwrap_or slot.old none)) }
+{
+    match slot {
+        Some(value) => by.change(value),
+        None => {
+            let mut value = none;
+            by.change(&mut value);
+            *slot = Some(value);
+        }
+    }
 }
 
 /// The number of the first value that was set, from a number on, where `base` is the number of the

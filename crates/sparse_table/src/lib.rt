@@ -3,11 +3,13 @@
 #![tactic(auto)]
 
 pub mod by_core;
+mod change;
 mod chunk;
 mod chunks;
 pub mod laws;
 mod next;
 mod table;
 
+pub use change::Change;
 pub use next::earlier;
 pub use table::SparseTable;

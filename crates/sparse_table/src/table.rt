@@ -2,7 +2,8 @@
 ghost use Rattle.std.specs.Prelude.{◌≡◌, ◌<◌, ◌^◌, [], OnErr, OnOk, length};
 ghost use Rattle.sparse_table.specs.Sparse.{RiseFrom, entries_from, next_from, value_of, with_value};
 
-use crate::chunk::{CHUNK, Chunk, chunk_with, is_at, place_of, put, value_at};
+use crate::Change;
+use crate::chunk::{CHUNK, Chunk, change, chunk_with, is_at, place_of, put, value_at};
 use crate::chunks::{count_in_chunks, first_in_chunks};
 use std::alloc::Global;
 use std::marker::Model;
@@ -109,6 +110,38 @@ impl<T: Copy> SparseTable<T> {
         self.chunks.insert(at, chunk)?;
         self.recent[recent_place(number)] = at;
         Ok(())
+    }
+
+    /// Changes the value of a number where it is, and gives one that was not set what `none` becomes.
+    /// Where memory runs out, the table is as it was.
+    #[inline(always)]
+    pub fn change<C: Change<T>>(&mut self, number: u64, by: &C) -> Result<(), NoMemory>
+        ensures ok { OnOk result (self.new ≡ with_value self.old number (C.changed by.now (value_of self.old number))) }
+        ensures err { OnErr result (self.new ≡ self.old) }
+    {
+        let at = self.recent[recent_place(number)];
+        if is_at(&self.chunks, at, number / CHUNK) {
+            change(
+                &mut self.chunks,
+                at,
+                (number % CHUNK) as usize,
+                self.none,
+                by,
+            );
+            Ok(())
+        } else {
+            self.change_by_search(number, by)
+        }
+    }
+
+    #[inline(never)]
+    fn change_by_search<C: Change<T>>(&mut self, number: u64, by: &C) -> Result<(), NoMemory>
+        ensures ok { OnOk result (self.new ≡ with_value self.old number (C.changed by.now (value_of self.old number))) }
+        ensures err { OnErr result (self.new ≡ self.old) }
+    {
+        let mut value = self.get_by_search(number);
+        by.change(&mut value);
+        self.set_by_search(number, value)
     }
 
     /// The least number, from this one on, that was set.
