@@ -4,8 +4,9 @@ ghost use Rattle.sparse_table.specs.ByCore.{value_at};
 ghost use Rattle.sparse_table.specs.Next.{IsNextIn};
 ghost use Rattle.execution_counts.specs.Counted.{capped, counted, is_in_stretch, no_stretch, one_if, times_as};
 
+use crate::one_more::OneMore;
 use crate::stretch::{MOST, Stretch};
-use sparse_table::by_core::{next_set, set_at, value_at};
+use sparse_table::by_core::{change_at, next_set, set_at, value_at};
 use sparse_table::{SparseTable, earlier};
 use std::alloc::Global;
 use std::marker::Model;
@@ -53,8 +54,7 @@ impl ExecutionCounts {
         ensures ok { OnOk result ((c n : ℕ) → counted self.new c n ≡ capped (counted self.old c n + one_if (core == c && pc == n))) }
         ensures err { OnErr result ((c n : ℕ) → counted self.new c n ≡ counted self.old c n) }
     {
-        let count = value_at(&self.singles, 0, core, pc).saturating_add(1);
-        set_at(self.alloc, &mut self.singles, 0, core, pc, count)?;
+        change_at(self.alloc, &mut self.singles, 0, core, pc, &OneMore)?;
         Ok(())
     }
 

@@ -3,6 +3,7 @@
 #![tactic(auto)]
 
 mod counts;
+mod one_more;
 mod stretch;
 
 pub use counts::ExecutionCounts;
