@@ -8,6 +8,7 @@ pub mod CriticalEvents
 pub mod EventsFound
 pub mod Fields
 pub mod Fitting
+pub mod Hits
 pub mod Instructions
 pub mod Leaving
 pub mod LinesTold

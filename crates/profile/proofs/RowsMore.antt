@@ -7,6 +7,7 @@ use Rattle.std.proofs.lemmas.List.Sums.{fold-append}
 use Rattle.sparse_table.specs.Sparse.{Sparse}
 use Rattle.profile.specs.declared.contribution.Contribution.{Contribution}
 use Rattle.profile_rows.specs.declared.tally.Tally.{Tally}
+use Rattle.profile.specs.Added.{Adds}
 use Rattle.profile.specs.Contributions.{is_at, is_to, tally_of}
 use Rattle.profile.specs.Copies.{is_this}
 use Rattle.profile.specs.Rows.{AreRows}
@@ -44,24 +45,24 @@ tally_more test cs c = ap (λ (xs : List Contribution). total (map (λ x. x.tall
     by false = ap (λ (xs : List Contribution). total (map (λ x. x.tally) xs)) (append-nil (filter test cs))
 
 -- an added tally at the place of which the test holds
-added : (test : Contribution → Bool) (cs : List Contribution) (c : Contribution) (old : Tally) → old ≡ capped_tally (tally_of test cs)
-    → (if test c then capped_tally (plus old c.tally) else old) ≡ capped_tally (tally_of test (cs ++ c ∷ []))
-added test cs c old is = by (test c) ∙ sym (ap capped_tally (tally_more test cs c))
+added : (test : Contribution → Bool) (cs : List Contribution) (c : Contribution) (changed : Tally → Tally) (old : Tally) → Adds changed c.tally → old ≡ capped_tally (tally_of test cs)
+    → (if test c then changed old else old) ≡ capped_tally (tally_of test (cs ++ c ∷ []))
+added test cs c changed old adds is = by (test c) ∙ sym (ap capped_tally (tally_more test cs c))
   where
-    by : (b : Bool) → (if b then capped_tally (plus old c.tally) else old) ≡ capped_tally (if b then plus (tally_of test cs) c.tally else tally_of test cs)
-    by true = ap (λ (t : Tally). capped_tally (plus t c.tally)) is ∙ capped_plus (tally_of test cs) c.tally
+    by : (b : Bool) → (if b then changed old else old) ≡ capped_tally (if b then plus (tally_of test cs) c.tally else tally_of test cs)
+    by true = ap changed is ∙ adds (tally_of test cs)
     by false = is
 
--- a tally was added to the one at a number, in a table of one core
-pub added_there : (core number : ℕ) (old new : ℕ → ℕ → Tally) (more : Tally)
-    → ((c n : ℕ) → new c n ≡ with_one core number (capped_tally (plus (old core number) more)) old c n)
-    → (c n : ℕ) → new c n ≡ (if core == c && number == n then capped_tally (plus (old c n) more) else old c n)
-added_there core number old new more is c n = is c n ∙ by (eqb_tells core c) (eqb_tells number n)
+-- the tally at a number was changed, in a table of one core
+pub changed_there : (core number : ℕ) (old new : ℕ → ℕ → Tally) (changed : Tally → Tally)
+    → ((c n : ℕ) → new c n ≡ with_one core number (changed (old core number)) old c n)
+    → (c n : ℕ) → new c n ≡ (if core == c && number == n then changed (old c n) else old c n)
+changed_there core number old new changed is c n = is c n ∙ by (eqb_tells core c) (eqb_tells number n)
   where
     by : ((core == c) ≡ true × (core ≡ c)) ⊎ ((core == c) ≡ false × (core ≢ c))
         → ((number == n) ≡ true × (number ≡ n)) ⊎ ((number == n) ≡ false × (number ≢ n))
-        → with_one core number (capped_tally (plus (old core number) more)) old c n ≡ (if core == c && number == n then capped_tally (plus (old c n) more) else old c n)
-    by (inl (by_core, same)) (inl (here, at)) = ap₂ (λ (k m : ℕ). if core == c && number == n then capped_tally (plus (old k m) more) else old c n) same at
+        → with_one core number (changed (old core number)) old c n ≡ (if core == c && number == n then changed (old c n) else old c n)
+    by (inl (by_core, same)) (inl (here, at)) = ap₂ (λ (k m : ℕ). if core == c && number == n then changed (old k m) else old c n) same at
     by (inl (by_core, same)) (inr (not_here, other)) = rw (by_core, not_here) refl
     by (inr (no_core, other)) at = rw no_core refl
 
@@ -74,13 +75,14 @@ none_added core c n old more = by (core == c)
     by false = refl
 
 module _ (cs : List Contribution) (c : Contribution) (addresses new_addresses lines new_lines : List (Sparse Tally)) (rows : AreRows cs addresses lines)
-    (at_address_more : (core pc : ℕ) → value_at no_tally new_addresses core pc ≡ (if c.core == core && is_this c.pc pc then capped_tally (plus (value_at no_tally addresses core pc) c.tally) else value_at no_tally addresses core pc))
-    (to_line_more : (core line : ℕ) → value_at no_tally new_lines core line ≡ (if c.core == core && c.line == line then capped_tally (plus (value_at no_tally lines core line) c.tally) else value_at no_tally lines core line))
+    (changed : Tally → Tally) (adds : Adds changed c.tally)
+    (at_address_more : (core pc : ℕ) → value_at no_tally new_addresses core pc ≡ (if c.core == core && is_this c.pc pc then changed (value_at no_tally addresses core pc) else value_at no_tally addresses core pc))
+    (to_line_more : (core line : ℕ) → value_at no_tally new_lines core line ≡ (if c.core == core && c.line == line then changed (value_at no_tally lines core line) else value_at no_tally lines core line))
     (none_address : HaveNone no_tally addresses → HaveNone no_tally new_addresses) (none_line : HaveNone no_tally lines → HaveNone no_tally new_lines) where
   pub rows_more : AreRows (cs ++ c ∷ []) new_addresses new_lines
   rows_more = record {
-    at_addresses = λ core pc. at_address_more core pc ∙ added (is_at core pc) cs c (value_at no_tally addresses core pc) (rows.at_addresses core pc);
-    at_lines = λ core line. to_line_more core line ∙ added (is_to core line) cs c (value_at no_tally lines core line) (rows.at_lines core line);
+    at_addresses = λ core pc. at_address_more core pc ∙ added (is_at core pc) cs c changed (value_at no_tally addresses core pc) adds (rows.at_addresses core pc);
+    at_lines = λ core line. to_line_more core line ∙ added (is_to core line) cs c changed (value_at no_tally lines core line) adds (rows.at_lines core line);
     none_at_addresses = none_address rows.none_at_addresses;
     none_at_lines = none_line rows.none_at_lines;
   }

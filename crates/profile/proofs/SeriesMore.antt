@@ -9,6 +9,7 @@ use Rattle.profile.specs.declared.series.OpenInterval.{OpenInterval}
 use Rattle.profile_rows.specs.declared.series_row.SeriesRow.{SeriesRow}
 use Rattle.profile_rows.specs.declared.tally.Tally.{Tally}
 use Rattle.profile_rows.specs.Tallies.{capped, capped_tally, capped_wide, no_tally, plus}
+use Rattle.profile.specs.Added.{Adds}
 use Rattle.profile.specs.Series.{AreSeries, SeriesSums, capped_open, capped_sums, has_room, next_first, no_sums, nothing_open, sums_in, with_interval, with_last, with_room, with_waits}
 use Rattle.profile.proofs.RowsMore.{both_capped, capped_plus, capped_sum}
 
@@ -21,6 +22,13 @@ pub access_more : (begun now : OpenInterval) (result tally : Tally) → begun �
 unfolding capped_open
 access_more begun now result tally is done =
     ap₂ open_of (ap (λ (o : OpenInterval). o.instructions) is) (done ∙ ap (λ (o : OpenInterval). capped_tally (plus o.tally tally)) is ∙ capped_plus now.tally tally)
+
+-- or what a change adds
+pub changed_more : (begun now : OpenInterval) (result more : Tally) (changed : Tally → Tally) → Adds changed more → begun ≡ capped_open now → result ≡ changed begun.tally
+    → open_of begun.instructions result ≡ capped_open (open_of now.instructions (plus now.tally more))
+unfolding capped_open
+changed_more begun now result more changed adds is done =
+    ap₂ open_of (ap (λ (o : OpenInterval). o.instructions) is) (done ∙ ap (λ (o : OpenInterval). changed o.tally) is ∙ adds now.tally)
 
 -- so many instructions more
 pub instructions_more : (begun now : OpenInterval) (n count : ℕ) → begun ≡ capped_open now → n ≡ capped (begun.instructions + count)

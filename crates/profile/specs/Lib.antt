@@ -1,3 +1,4 @@
+pub mod Added
 pub mod Contributions
 pub mod Copies
 pub mod CopyTables

@@ -1,6 +1,7 @@
 //! What the steps of a run add up to: by core and address of the instruction, by core and line, and by interval.
 #![tactic(auto)]
 
+mod added;
 mod address_rows;
 mod contribution;
 mod copies;

@@ -1,10 +1,10 @@
 //! The parts of a profile that accesses and their events change.
-ghost use Rattle.std.specs.Prelude.{◌≡◌, ◌==◌, ◌&&◌, ◌++◌, ◌∷◌, [], ℕ, List, IfOk, OnOk, if◌then◌else◌, map};
+ghost use Rattle.std.specs.Prelude.{◌≡◌, ◌==◌, ◌&&◌, ◌++◌, ◌∷◌, [], ℕ, List, IfOk, OnOk, if◌then◌else◌, map, true};
 ghost use Rattle.zs_num.specs.declared.entry.Entry.{Entry};
 ghost use Rattle.event_graph.specs.declared.event.Event.{Event};
 ghost use Rattle.event_graph.specs.declared.fired.Fired.{Fired};
 ghost use Rattle.noc_mesh.specs.NetTiming.{net_time};
-ghost use Rattle.stats.specs.Counted.{wait_of};
+ghost use Rattle.stats.specs.Counted.{is_hit};
 ghost use Rattle.trace.specs.Trace.{Accessed, Ended, Step};
 ghost use Rattle.profile.specs.declared.contribution.Contribution.{Contribution};
 ghost use Rattle.profile.specs.Contributions.{access_adds, wait_adds};
@@ -14,7 +14,8 @@ ghost use Rattle.profile.specs.Parts.{AreParts, IsServing};
 ghost use Rattle.profile.specs.Waits.{makers_of, wait_for};
 ghost use Rattle.profile.specs.Rows.{AreRows};
 
-use crate::contribution::{Contribution, Maker};
+use crate::added::{Hit, Waited};
+use crate::contribution::Maker;
 use crate::copies::Copies;
 use crate::makers::{Queue, clear, first_of, put, take_first};
 use crate::met::{access_adds, is_hit};
@@ -23,7 +24,7 @@ use crate::series::wait_of;
 use crate::suffered::add_suffered;
 use event_graph::{Event, Fired};
 use noc_mesh::Net;
-use profile_rows::{NONE, Tally};
+use profile_rows::Tally;
 use shard::Leaving;
 use std::alloc::Global;
 use zs_num::{Entry, NoMemory};
@@ -69,6 +70,28 @@ impl Parts {
         Ok(adds.tally)
     }
 
+    /// A hit, for which these lines left, and which takes so many cycles. It changes no copy of
+    /// another core, and makes no event.
+    #[inline(always)]
+    pub(crate) fn hit(
+        &mut self,
+        alloc: Global,
+        pc: u64,
+        entry: &Entry,
+        leaving: &Leaving,
+        cycles: u64,
+    ) -> Result<(), NoMemory>
+        requires { is_hit entry.now.outcome ≡ true }
+        ensures { OnOk result ((time : Entry → ℕ) (cores : ℕ) (steps : List Step) → cycles ≡ time entry.now → AreParts time cores steps self.old → AreParts time cores (steps ++ Accessed pc entry.now leaving.now ∷ []) self.new) }
+    {
+        let request = entry.request;
+        let hit = Hit { request, cycles };
+        self.rows
+            .change(alloc, entry.core, Some(pc), request.line(), &hit)?;
+        self.copies.pass(alloc, entry, leaving)?;
+        Ok(())
+    }
+
     /// The end of an interval, of which these are the events and when they fired.
     pub(crate) fn end(
         &mut self,
@@ -109,7 +132,9 @@ fn give(
     ensures { OnOk result ((cs : List Contribution) → AreRows cs rows.old.addresses.items rows.old.lines.items → AreRows (cs ++ map wait_adds (wait_for first event.now fired.now)) rows.new.addresses.items rows.new.lines.items) }
 {
     if let Some(maker) = first {
-        rows.add(alloc, &wait_adds(&maker, event, fired))?;
+        let cycles = wait_of(event, fired);
+        let waited = Waited { cycles };
+        rows.change(alloc, maker.core, Some(maker.pc), maker.line, &waited)?;
     }
     Ok(())
 }
@@ -120,21 +145,6 @@ fn let_go(makers: &mut Vec<Queue>, event: &Event)
 {
     if event.critical {
         take_first(makers, event.core);
-    }
-}
-
-/// What the wait of an event adds to the access that made it.
-fn wait_adds(maker: &Maker, event: &Event, fired: &Fired) -> Contribution
-    ensures { result ≡ wait_adds (record { maker = maker.now; component = event.now.component; cycles = wait_of event.now fired.now }) }
-{
-    Contribution {
-        core: maker.core,
-        pc: Some(maker.pc),
-        line: maker.line,
-        tally: Tally {
-            waited: u128::from(wait_of(event, fired)),
-            ..NONE
-        },
     }
 }
 

@@ -1,19 +1,23 @@
 //! The profile of a run.
-ghost use Rattle.std.specs.Prelude.{◌≡◌, ◌≤◌, ◌^◌, ◌++◌, ◌∷◌, [], ℕ, All, List, OnOk, false, length};
+ghost use Rattle.std.specs.Prelude.{◌≡◌, ◌≤◌, ◌^◌, ◌++◌, ◌∷◌, [], ℕ, All, List, OnOk, false, length, true};
 ghost use Rattle.trace.specs.Trace.{Accessed, Ended, Executed, Step};
 ghost use Rattle.profile.specs.Executed.{executed_at};
-ghost use Rattle.profile.specs.Contributions.{at_address, at_line};
+ghost use Rattle.noc_mesh.specs.NetTiming.{net_time};
+ghost use Rattle.stats.specs.Counted.{is_hit};
+ghost use Rattle.profile.specs.Contributions.{access_adds, at_address, at_line};
+ghost use Rattle.profile.specs.CopyTables.{copies_in};
 ghost use Rattle.profile.specs.Profiled.{added_in, has_address, series_in};
 ghost use Rattle.profile.specs.Rows.{IsCandidate, IsNext, has_line};
 ghost use Rattle.profile.specs.Parts.{AreParts};
 ghost use Rattle.profile.specs.Series.{AreSeries, IsSeries, Series, nothing_open, with_interval, with_last, with_room};
 ghost use Rattle.zs_num.specs.declared.entry.Entry.{Entry};
-ghost use Rattle.profile_rows.specs.Tallies.{capped, capped_tally};
+ghost use Rattle.profile_rows.specs.Tallies.{capped, capped_tally, plus};
 
+use crate::met::is_hit;
 use crate::parts::Parts;
 use crate::series::SeriesRows;
 use crate::something::is_something;
-use event_graph::{Event, Fired, FiredList, Graph};
+use event_graph::{Event, Expand, Fired, FiredList, Graph};
 use execution_counts::ExecutionCounts;
 use noc_mesh::Net;
 use profile_rows::{NONE, SeriesRow, Tally};
@@ -188,12 +192,18 @@ impl Tracer for Profile {
     }
 
     fn accessed(&mut self, pc: u64, entry: &Entry, leaving: Leaving) -> Result<(), NoMemory> {
-        let passed = self
-            .parts
-            .access(self.alloc, &self.net, self.cores, pc, entry, &leaving);
+        let passed = access(
+            self.alloc,
+            &mut self.parts,
+            &mut self.series,
+            &self.net,
+            self.cores,
+            pc,
+            entry,
+            &leaving,
+        );
         match passed {
-            Ok(tally) => {
-                self.series.accessed(&tally);
+            Ok(()) => {
                 self.told = self.told.then_accessed(&pc, entry, &leaving);
                 Ok(())
             }
@@ -237,6 +247,51 @@ impl Tracer for Profile {
             }
         }
     }
+}
+
+/// An access, for which these lines left.
+#[inline(always)]
+fn access(
+    alloc: Global,
+    parts: &mut Parts,
+    series: &mut SeriesRows,
+    net: &Net,
+    cores: u16,
+    pc: u64,
+    entry: &Entry,
+    leaving: &Leaving,
+) -> Result<(), NoMemory>
+    ensures parts { OnOk result ((steps : List Step) → AreParts (net_time net.now.path) cores steps parts.old → AreParts (net_time net.now.path) cores (steps ++ Accessed pc entry.now leaving.now ∷ []) parts.new) }
+    ensures series { OnOk result ((s : Series) → IsSeries s series.old → IsSeries (record s { begun = record s.begun { tally = plus s.begun.tally (access_adds (net_time net.now.path) cores (copies_in parts.old.copies.of_data.items parts.old.copies.of_instructions.items) pc entry.now).tally } }) series.new) }
+{
+    if is_hit(&entry.outcome) {
+        hit(alloc, parts, series, net, pc, entry, leaving)?;
+    } else {
+        let tally = parts.access(alloc, net, cores, pc, entry, leaving)?;
+        series.accessed(&tally);
+    }
+    Ok(())
+}
+
+/// The same of a hit.
+#[inline(always)]
+fn hit(
+    alloc: Global,
+    parts: &mut Parts,
+    series: &mut SeriesRows,
+    net: &Net,
+    pc: u64,
+    entry: &Entry,
+    leaving: &Leaving,
+) -> Result<(), NoMemory>
+    requires { is_hit entry.now.outcome ≡ true }
+    ensures parts { OnOk result ((cores : ℕ) (steps : List Step) → AreParts (net_time net.now.path) cores steps parts.old → AreParts (net_time net.now.path) cores (steps ++ Accessed pc entry.now leaving.now ∷ []) parts.new) }
+    ensures series { OnOk result ((cores : ℕ) (s : Series) → IsSeries s series.old → IsSeries (record s { begun = record s.begun { tally = plus s.begun.tally (access_adds (net_time net.now.path) cores (copies_in parts.old.copies.of_data.items parts.old.copies.of_instructions.items) pc entry.now).tally } }) series.new) }
+{
+    let cycles = net.time(entry);
+    parts.hit(alloc, pc, entry, leaving, cycles)?;
+    series.hit(&entry.request, cycles);
+    Ok(())
 }
 
 /// The end of an interval, of which these are the events and when they fired.

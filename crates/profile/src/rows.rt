@@ -1,16 +1,18 @@
 //! Tallies by the address of the instruction and by line, core by core.
 ghost use Rattle.std.specs.Prelude.{◌≡◌, ◌==◌, ◌&&◌, ◌++◌, ◌∷◌, [], ℕ, List, OnOk, if◌then◌else◌};
 ghost use Rattle.profile.specs.declared.contribution.Contribution.{Contribution};
+ghost use Rattle.profile.specs.Added.{Adds};
 ghost use Rattle.profile.specs.Copies.{is_this};
 ghost use Rattle.profile.specs.Rows.{AreRows, IsNext, has_line};
 ghost use Rattle.sparse_table.specs.ByCore.{HaveNone, value_at};
-ghost use Rattle.profile_rows.specs.Tallies.{capped_tally, no_tally, plus};
+ghost use Rattle.profile_rows.specs.declared.tally.Tally.{Tally};
+ghost use Rattle.profile_rows.specs.Tallies.{no_tally};
 
 use crate::contribution::Contribution;
 use crate::something::is_something;
 use profile_rows::{NONE, Tally};
-use sparse_table::SparseTable;
-use sparse_table::by_core::{next_set, set_at, value_at};
+use sparse_table::by_core::{change_at, next_set, value_at};
+use sparse_table::{Change, SparseTable};
 use std::alloc::Global;
 use zs_num::NoMemory;
 
@@ -36,8 +38,24 @@ impl Rows {
     pub(crate) fn add(&mut self, alloc: Global, c: &Contribution) -> Result<(), NoMemory>
         ensures { OnOk result ((cs : List Contribution) → AreRows cs self.old.addresses.items self.old.lines.items → AreRows (cs ++ c.now ∷ []) self.new.addresses.items self.new.lines.items) }
     {
-        add_where(alloc, &mut self.addresses, c.core, c.pc, &c.tally)?;
-        add_at(alloc, &mut self.lines, c.core, c.line, &c.tally)?;
+        self.change(alloc, c.core, c.pc, c.line, c)?;
+        Ok(())
+    }
+
+    /// Adds what a change adds, to an instruction of a core, if there is one, and to a line.
+    #[inline(always)]
+    pub(crate) fn change<C: Change<Tally>>(
+        &mut self,
+        alloc: Global,
+        core: u16,
+        pc: Option<u64>,
+        line: u64,
+        by: &C,
+    ) -> Result<(), NoMemory>
+        ensures { OnOk result ((cs : List Contribution) (more : Tally) → Adds (C.changed by.now) more → AreRows cs self.old.addresses.items self.old.lines.items → AreRows (cs ++ record { core = core; pc = pc; line = line; tally = more } ∷ []) self.new.addresses.items self.new.lines.items) }
+    {
+        change_where(alloc, &mut self.addresses, core, pc, by)?;
+        change_in(alloc, &mut self.lines, core, line, by)?;
         Ok(())
     }
 
@@ -66,35 +84,36 @@ impl Rows {
     }
 }
 
-/// Adds to the tally that a core has at a number.
-fn add_at(
+/// Changes the tally that a core has at a number.
+#[inline(always)]
+fn change_in<C: Change<Tally>>(
     alloc: Global,
     tables: &mut Vec<SparseTable<Tally>>,
     core: u16,
     number: u64,
-    more: &Tally,
+    by: &C,
 ) -> Result<(), NoMemory>
-    ensures values { OnOk result ((c n : ℕ) → value_at no_tally tables.new.items c n ≡ (if core == c && number == n then capped_tally (plus (value_at no_tally tables.old.items c n) more.now) else value_at no_tally tables.old.items c n)) }
+    ensures values { OnOk result ((c n : ℕ) → value_at no_tally tables.new.items c n ≡ (if core == c && number == n then C.changed by.now (value_at no_tally tables.old.items c n) else value_at no_tally tables.old.items c n)) }
     ensures none { HaveNone no_tally tables.old.items → HaveNone no_tally tables.new.items }
 {
-    let tally = value_at(tables, NONE, core, number).plus(more);
-    set_at(alloc, tables, NONE, core, number, tally)?;
+    change_at(alloc, tables, NONE, core, number, by)?;
     Ok(())
 }
 
 /// The same, where there is a number.
-fn add_where(
+#[inline(always)]
+fn change_where<C: Change<Tally>>(
     alloc: Global,
     tables: &mut Vec<SparseTable<Tally>>,
     core: u16,
     number: Option<u64>,
-    more: &Tally,
+    by: &C,
 ) -> Result<(), NoMemory>
-    ensures values { OnOk result ((c n : ℕ) → value_at no_tally tables.new.items c n ≡ (if core == c && is_this number n then capped_tally (plus (value_at no_tally tables.old.items c n) more.now) else value_at no_tally tables.old.items c n)) }
+    ensures values { OnOk result ((c n : ℕ) → value_at no_tally tables.new.items c n ≡ (if core == c && is_this number n then C.changed by.now (value_at no_tally tables.old.items c n) else value_at no_tally tables.old.items c n)) }
     ensures none { HaveNone no_tally tables.old.items → HaveNone no_tally tables.new.items }
 {
     match number {
-        Some(number) => add_at(alloc, tables, core, number, more),
+        Some(number) => change_in(alloc, tables, core, number, by),
         None => Ok(()),
     }
 }

@@ -3,14 +3,18 @@ ghost use Rattle.std.specs.Prelude.{◌≡◌, ◌+◌, ◌<◌, ◌∷◌, [], 
 ghost use Rattle.std.specs.List.{zip};
 ghost use Rattle.event_graph.specs.declared.event.Event.{Event};
 ghost use Rattle.event_graph.specs.declared.fired.Fired.{Fired};
+ghost use Rattle.profile.specs.Added.{Adds, with_hit};
+ghost use Rattle.profile_rows.specs.declared.tally.Tally.{Tally};
 ghost use Rattle.profile.specs.Series.{AreSeries, IsSeries, Series, SeriesSums, capped_open, capped_sums, has_room, next_first, no_sums, nothing_open, no_series, sums_in, with_interval, with_last, with_room, with_waits};
 ghost use Rattle.profile_rows.specs.Tallies.{capped, capped_wide, plus};
 ghost use Rattle.stats.specs.Counted.{wait_of};
 
+use crate::added::{Hit, add};
 use event_graph::{Event, Fired};
 use profile_rows::{NONE, SeriesRow, Tally};
+use sparse_table::Change;
 use std::alloc::Global;
-use zs_num::NoMemory;
+use zs_num::{NoMemory, Request};
 
 /// What the instructions and the accesses of an interval count up to here.
 #[derive(Clone, Copy)]
@@ -56,7 +60,19 @@ impl SeriesRows {
     pub(crate) fn accessed(&mut self, tally: &Tally)
         ensures { (s : Series) → IsSeries s self.old → IsSeries (record s { begun = record s.begun { tally = plus s.begun.tally tally.now } }) self.new }
     {
-        self.begun.tally = self.begun.tally.plus(tally);
+        add(&mut self.begun.tally, tally);
+    }
+
+    /// A hit more, which takes so many cycles.
+    #[inline(always)]
+    pub(crate) fn hit(&mut self, request: &Request, cycles: u64)
+        ensures { (s : Series) (more : Tally) → Adds (with_hit request.now cycles) more → IsSeries s self.old → IsSeries (record s { begun = record s.begun { tally = plus s.begun.tally more } }) self.new }
+    {
+        let hit = Hit {
+            request: *request,
+            cycles,
+        };
+        hit.change(&mut self.begun.tally);
     }
 
     /// The interval ends, and these are its events and when they fired. A row has `every` intervals,

@@ -1,0 +1,7 @@
+use Rattle.profile.proofs.profile.access.Goals as goal
+
+pub returns-in_ok-hit-clause-parts : goal.returns-in_ok-hit-clause-parts
+returns-in_ok-hit-clause-parts c = c.in_ok-hit.ensures.parts c.args.cores
+
+pub returns-in_ok-hit-clause-series : goal.returns-in_ok-hit-clause-series
+returns-in_ok-hit-clause-series c = c.in_ok-hit.ensures.series c.args.cores

@@ -1,0 +1,98 @@
+//! What steps add to tallies, where these are.
+ghost use Rattle.std.specs.Prelude.{◌≡◌};
+ghost use Rattle.profile.specs.Added.{with_access};
+ghost use Rattle.profile_rows.specs.Tallies.{capped_tally, plus};
+
+use crate::contribution::Contribution;
+use profile_rows::Tally;
+use sparse_table::Change;
+use zs_num::Request;
+
+/// A hit of a core's own cache, and how many cycles it takes. It adds to three numbers alone.
+#[derive(Clone, Copy)]
+pub(crate) struct Hit {
+    pub(crate) request: Request,
+    pub(crate) cycles: u64,
+}
+
+impl Change<Tally> for Hit {
+    ghost use Rattle.profile.specs.Added.{with_hit};
+
+    ghost changed = { λ hit t. with_hit hit.request hit.cycles t };
+
+    #[inline(always)]
+    fn change(&self, value: &mut Tally) {
+        count_access(&self.request, value);
+        value.hits = value.hits.saturating_add(1);
+        value.cycles = value.cycles.saturating_add(self.cycles);
+    }
+}
+
+/// An event waited so many cycles.
+#[derive(Clone, Copy)]
+pub(crate) struct Waited {
+    pub(crate) cycles: u64,
+}
+
+impl Change<Tally> for Waited {
+    ghost use Rattle.profile.specs.Added.{with_wait};
+
+    ghost changed = { λ waited t. with_wait waited.cycles t };
+
+    #[inline(always)]
+    fn change(&self, value: &mut Tally) {
+        value.waited = value.waited.saturating_add(u128::from(self.cycles));
+    }
+}
+
+impl Change<Tally> for Contribution {
+    ghost use Rattle.profile_rows.specs.Tallies.{capped_tally, plus};
+
+    ghost changed = { λ c t. capped_tally (plus t c.tally) };
+
+    fn change(&self, value: &mut Tally) {
+        add(value, &self.tally);
+    }
+}
+
+/// Counts an access by its kind.
+#[inline(always)]
+fn count_access(request: &Request, t: &mut Tally)
+    ensures { t.new ≡ with_access request.now t.old }
+{
+    match request {
+        Request::Load { .. } => t.loads = t.loads.saturating_add(1),
+        Request::Store { .. } => t.stores = t.stores.saturating_add(1),
+        Request::Lr { .. } | Request::Sc { .. } | Request::Amo { .. } => {
+            t.atomics = t.atomics.saturating_add(1)
+        }
+        Request::Fetch { .. } => t.fetches = t.fetches.saturating_add(1),
+    }
+}
+
+/// Adds a tally to another one.
+#[tactic(auto, unfolding(profile_rows::specs::Tallies::capped_tally, profile_rows::specs::Tallies::plus))]
+pub(crate) fn add(t: &mut Tally, more: &Tally)
+    ensures { t.new ≡ capped_tally (plus t.old more.now) }
+{
+    t.loads = t.loads.saturating_add(more.loads);
+    t.stores = t.stores.saturating_add(more.stores);
+    t.atomics = t.atomics.saturating_add(more.atomics);
+    t.fetches = t.fetches.saturating_add(more.fetches);
+    t.hits = t.hits.saturating_add(more.hits);
+    t.upgrades = t.upgrades.saturating_add(more.upgrades);
+    t.l2hits = t.l2hits.saturating_add(more.l2hits);
+    t.misses = t.misses.saturating_add(more.misses);
+    t.cold = t.cold.saturating_add(more.cold);
+    t.coherence = t.coherence.saturating_add(more.coherence);
+    t.inclusion = t.inclusion.saturating_add(more.inclusion);
+    t.eviction = t.eviction.saturating_add(more.eviction);
+    t.invalidating = t.invalidating.saturating_add(more.invalidating);
+    t.invalidated = t.invalidated.saturating_add(more.invalidated);
+    t.downgrades = t.downgrades.saturating_add(more.downgrades);
+    t.lost = t.lost.saturating_add(more.lost);
+    t.lowered = t.lowered.saturating_add(more.lowered);
+    t.cycles = t.cycles.saturating_add(more.cycles);
+    t.missing = t.missing.saturating_add(more.missing);
+    t.waited = t.waited.saturating_add(more.waited);
+}
