@@ -1,5 +1,5 @@
 -- Addresses that have no count.
-use Rattle.std.proofs.Common.{◌≡◌, ℕ, ◌+◌, ◌-◌, ◌*◌, ◌/◌, ◌%◌, ◌<◌, ◌≤◌, ◌^◌, Bool, true, false, Option, None, Some, ◌⊎◌, inl, inr, refl, sym, ◌∙◌, ap, arith, tests}
+use Rattle.std.proofs.Common.{◌≡◌, ℕ, zero, suc, ◌+◌, ◌-◌, ◌*◌, ◌/◌, ◌%◌, ◌<◌, ◌≤◌, ◌^◌, Bool, true, false, Option, None, Some, ◌⊎◌, inl, inr, refl, sym, ◌∙◌, ap, arith, tests}
 use Rattle.std.specs.Prelude.{nat_le, nat_lt, if◌then◌else◌}
 use Rattle.std.proofs.lemmas.Bool.{cases_lt}
 use Rattle.sparse_table.specs.ByCore.{IsNextSet, value_at}
@@ -94,3 +94,21 @@ one_further values from place before here n le lt = by (cases_lt n (from + place
     by : (n < from + place) ⊎ (from + place ≤ n) → values n ≡ 0
     by (inl less) = before n le less
     by (inr up) = ap values (omega (arith, up, lt)) ∙ here
+
+-- beyond the longest stretch there is nothing to add up
+module _ (stretches : ℕ → Stretch) (address longest : ℕ) (short : (pc : ℕ) → (stretches pc).count ≤ longest) where
+  none_at : (k : ℕ) → longest ≤ k → times_as stretches address k ≡ 0
+  none_at k past = as_place (λ n. 0) stretches address k (λ back within. absurd (omega (arith, short (address - 4 * k), past, within)))
+
+  pub sum_short : (n : ℕ) → longest ≤ n → sum_below (times_as stretches address) longest ≡ sum_below (times_as stretches address) n
+  sum_short zero le =
+      let same : longest ≡ 0 = omega (arith, le) in
+      ap (sum_below (times_as stretches address)) same
+  sum_short (suc n) le = by (cases_lt n longest) (sum_short n)
+    where
+      by : (n < longest) ⊎ (longest ≤ n) → (longest ≤ n → sum_below (times_as stretches address) longest ≡ sum_below (times_as stretches address) n)
+          → sum_below (times_as stretches address) longest ≡ sum_below (times_as stretches address) (suc n)
+      by (inl few) before =
+          let same : longest ≡ suc n = omega (arith, few, le) in
+          ap (sum_below (times_as stretches address)) same
+      by (inr more) before = omega (arith, before more, none_at n more)

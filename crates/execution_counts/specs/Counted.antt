@@ -1,5 +1,5 @@
 -- How often instructions were executed, as tables have it.
-use Rattle.std.specs.Prelude.{ℕ, zero, suc, ◌+◌, ◌-◌, ◌*◌, ◌/◌, ◌%◌, ◌<◌, ◌^◌, ◌==◌, nat_le, nat_lt, Bool, ◌&&◌, List, if◌then◌else◌, min}
+use Rattle.std.specs.Prelude.{ℕ, zero, suc, ◌+◌, ◌-◌, ◌*◌, ◌/◌, ◌%◌, ◌<◌, ◌≤◌, ◌^◌, ◌==◌, nat_le, nat_lt, Bool, ◌&&◌, List, if◌then◌else◌, min}
 use Rattle.sparse_table.specs.ByCore.{HaveNone, value_at}
 use Rattle.sparse_table.specs.Sparse.{Sparse}
 use Rattle.execution_counts.specs.declared.stretch.Stretch.{Stretch}
@@ -53,3 +53,8 @@ pub record AreSound (counts : Counts) : Type 0 where
   pub none_single : HaveNone 0 counts.singles
   pub none_stretch : HaveNone no_stretch counts.stretches
   pub within : (core pc place : ℕ) → place < (value_at no_stretch counts.stretches core pc).count → pc + 4 * place < 2 ^ 64
+
+-- No stretch has more instructions than so many, which are 128 at most.
+pub record AreShort (longest : ℕ) (stretches : List (Sparse Stretch)) : Type 0 where
+  pub few : longest ≤ 128
+  pub short : (core pc : ℕ) → (value_at no_stretch stretches core pc).count ≤ longest

@@ -24,16 +24,18 @@ pub struct ExecutionCounts {
     singles: Vec<SparseTable<u64>>,
     /// Those that were counted with others, by core and the address of the first of them.
     stretches: Vec<SparseTable<Stretch>>,
+    /// No stretch has more instructions than so many.
+    longest: u64,
 }
 
 impl Model for ExecutionCounts {
-    ghost use Rattle.execution_counts.specs.Counted.{AreSound, Counts};
+    ghost use Rattle.execution_counts.specs.Counted.{AreShort, AreSound, Counts};
 
     ghost Value = { Counts };
 
     ghost view = { λ t. record { singles = t.singles.items; stretches = t.stretches.items } };
 
-    ghost invariant = { λ t. AreSound (record { singles = t.singles.items; stretches = t.stretches.items }) };
+    ghost invariant = { λ t. AreSound (record { singles = t.singles.items; stretches = t.stretches.items }) × AreShort t.longest t.stretches.items };
 }
 
 impl ExecutionCounts {
@@ -45,6 +47,7 @@ impl ExecutionCounts {
             alloc,
             singles: Vec::new(alloc),
             stretches: Vec::new(alloc),
+            longest: 0,
         }
     }
 
@@ -70,6 +73,7 @@ impl ExecutionCounts {
                 count,
                 times: was.times.saturating_add(1),
             };
+            self.longest = self.longest.max(count);
             set_at(
                 self.alloc,
                 &mut self.stretches,
@@ -101,7 +105,7 @@ impl ExecutionCounts {
         ensures { result ≡ counted self.now core pc }
     {
         let mut count = value_at(&self.singles, 0, core, pc);
-        for place in 0..MOST {
+        for place in 0..self.longest {
             count = count.saturating_add(times_as(&self.stretches, core, pc, place));
         }
         count

@@ -4,7 +4,7 @@ use Rattle.sparse_table.specs.ByCore.{value_at}
 use Rattle.execution_counts.specs.declared.stretch.Stretch.{Stretch}
 use Rattle.execution_counts.specs.Counted.{Counts, capped, counted, is_in_stretch, no_stretch, one_if}
 use Rattle.execution_counts.proofs.Counting.{IsSame, stretch_more}
-use Rattle.execution_counts.proofs.Sound.{sound_more, sound_same}
+use Rattle.execution_counts.proofs.Sound.{short_more, short_same, sound_more, sound_same}
 use Rattle.execution_counts.proofs.counts.ExecutionCounts.add_stretch.Goals as goal
 use Rattle.execution_counts.proofs.counts.ExecutionCounts.add_stretch.Goals.{then-was-eq0, else-was-eq0}
 
@@ -23,11 +23,15 @@ returns-in_ok-set_at c = λ core n.
 
 pub invariant_of-self : goal.invariant_of-self
 invariant_of-self c =
-    let inside = c.self.inside in
-    sound_same inside.singles.items inside.stretches.items c.set_at.new.tables.items c.self.invariant c.set_at.ensures.none c.in_err-set_at.ensures.err
+    let inside = c.self.inside in (
+      sound_same inside.singles.items inside.stretches.items c.set_at.new.tables.items c.self.invariant.0 c.set_at.ensures.none c.in_err-set_at.ensures.err,
+      short_same inside.longest c.max-self-inside.result inside.stretches.items c.set_at.new.tables.items c.self.invariant.1 (omega (arith, c.max-self-inside.ensures)) (omega (arith, c.max-self-inside.ensures, c.self.invariant.1.few, c.if-count-le-MOST.true)) c.in_err-set_at.ensures.err,
+    )
 
 pub invariant_of-self-then-was-count : goal.invariant_of-self-then-was-count
 invariant_of-self-then-was-count c =
     let inside = c.self.inside in
-    let more : Stretch = record { count = c.args.count; times = c.saturating_add.result } in
-    sound_more inside.singles.items inside.stretches.items c.set_at.new.tables.items c.self.invariant c.set_at.ensures.none c.args.core c.args.pc more c.requires c.in_ok-set_at.ensures.ok
+    let more : Stretch = record { count = c.args.count; times = c.saturating_add.result } in (
+      sound_more inside.singles.items inside.stretches.items c.set_at.new.tables.items c.self.invariant.0 c.set_at.ensures.none c.args.core c.args.pc more c.requires c.in_ok-set_at.ensures.ok,
+      short_more inside.longest c.max-self-inside.result inside.stretches.items c.set_at.new.tables.items c.self.invariant.1 (omega (arith, c.max-self-inside.ensures)) (omega (arith, c.max-self-inside.ensures, c.self.invariant.1.few, c.if-count-le-MOST.true)) c.args.core c.args.pc more (omega (arith, c.max-self-inside.ensures)) c.in_ok-set_at.ensures.ok,
+    )
