@@ -53,6 +53,7 @@ impl CopyState {
 }
 
 /// The copy of a line leaves a core's cache.
+#[inline(never)]
 fn leave_one(
     alloc: Global,
     tables: &mut Vec<SparseTable<CopyState>>,
@@ -67,6 +68,7 @@ fn leave_one(
 }
 
 /// The copies of a line leave the caches of all cores, but for one.
+#[inline(never)]
 fn leave_all(
     tables: &mut Vec<SparseTable<CopyState>>,
     spared: Option<u16>,
@@ -129,6 +131,7 @@ impl Copies {
     }
 
     /// A core's copy of a line.
+    #[inline(always)]
     fn copy(&self, fetching: bool, core: u16, line: u64) -> CopyState
         ensures { result ≡ copies_in self.now.of_data.items self.now.of_instructions.items fetching core line }
     {
@@ -140,6 +143,7 @@ impl Copies {
     }
 
     /// What the core of an access has of its line.
+    #[inline(always)]
     pub(crate) fn own(&self, entry: &Entry) -> CopyState
         ensures { result ≡ own_copy (copies_in self.now.of_data.items self.now.of_instructions.items) entry.now }
     {
@@ -158,6 +162,7 @@ impl Copies {
     }
 
     /// A line leaves the L2.
+    #[inline(always)]
     fn leave_l2(&mut self, shared: Option<u64>) -> Result<(), NoMemory>
         ensures { OnOk result ((f : Bool) (c n : ℕ) → copies_in self.new.of_data.items self.new.of_instructions.items f c n ≡ left_l2 shared n (copies_in self.old.of_data.items self.old.of_instructions.items f c n)) }
     {
@@ -170,6 +175,7 @@ impl Copies {
     }
 
     /// A line makes room in a cache of a core.
+    #[inline(always)]
     fn make_room(
         &mut self,
         alloc: Global,
@@ -197,6 +203,7 @@ impl Copies {
     }
 
     /// A write takes a line away from other cores, if it does.
+    #[inline(always)]
     fn take_away(&mut self, writes: bool, core: u16, line: u64) -> Result<(), NoMemory>
         ensures { OnOk result ((f : Bool) (c n : ℕ) → copies_in self.new.of_data.items self.new.of_instructions.items f c n ≡ when_taken writes (is_others core f c) (line == n) (copies_in self.old.of_data.items self.old.of_instructions.items f c n)) }
     {
@@ -208,6 +215,7 @@ impl Copies {
     }
 
     /// A core has a line. It mostly has it already, and then nothing is written.
+    #[inline(always)]
     fn hold(&mut self, alloc: Global, fetching: bool, core: u16, line: u64) -> Result<(), NoMemory>
         ensures { OnOk result ((f : Bool) (c n : ℕ) → copies_in self.new.of_data.items self.new.of_instructions.items f c n ≡ when_used (is_of fetching core f c) (line == n) (copies_in self.old.of_data.items self.old.of_instructions.items f c n)) }
     {
@@ -218,6 +226,7 @@ impl Copies {
     }
 
     /// A core takes a line in.
+    #[inline(never)]
     fn take_in(
         &mut self,
         alloc: Global,
@@ -250,6 +259,7 @@ impl Copies {
     }
 
     /// What there is of all copies after an access, for which these lines left.
+    #[inline(always)]
     pub(crate) fn pass(
         &mut self,
         alloc: Global,
@@ -270,6 +280,7 @@ impl Copies {
 }
 
 /// Whether it has to be alone with the line.
+#[inline(always)]
 fn writes(request: &Request) -> bool
     ensures { result ≡ writes request.now }
 {
@@ -280,6 +291,7 @@ fn writes(request: &Request) -> bool
 }
 
 /// Whether it reads data.
+#[inline(always)]
 fn reads(request: &Request) -> bool
     ensures { result ≡ reads request.now }
 {
@@ -287,6 +299,7 @@ fn reads(request: &Request) -> bool
 }
 
 /// Whether copies of other cores were changed for it.
+#[inline(always)]
 fn changes_others(outcome: &Outcome) -> bool
     ensures { result ≡ changes_others outcome.now }
 {
@@ -299,6 +312,7 @@ fn changes_others(outcome: &Outcome) -> bool
 }
 
 /// Whether an access took copies of other cores away.
+#[inline(always)]
 pub(crate) fn invalidates(entry: &Entry) -> bool
     ensures { result ≡ invalidates entry.now }
 {
