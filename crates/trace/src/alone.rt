@@ -32,7 +32,8 @@ pub fn run_alone<T: Tracer>(
 {
     let mut goes_on = true;
     while goes_on {
-        goes_on = tell_more(program, end, number, core, tracer)?;
+        let more = tell_more(program, end, number, core, tracer)?;
+        goes_on = more && core.core().is_free();
     }
     Ok(())
 }

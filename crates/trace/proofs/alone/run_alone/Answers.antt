@@ -1,4 +1,4 @@
-use Rattle.std.proofs.Common.{◌≡◌, false, List, ◌++◌, sym, ◌∙◌, ap, arith, rules}
+use Rattle.std.proofs.Common.{◌≡◌, Bool, true, false, ◌&&◌, refl, List, ◌++◌, sym, ◌∙◌, ap, arith, rules}
 use Rattle.std.proofs.lemmas.List.{append-nil}
 use Rattle.bound_core.specs.NumberedCores.{NumberedCore}
 use Rattle.bound_core.specs.TimedCore.{goes_on_alone}
@@ -13,7 +13,7 @@ tell_more-requires-clause-clock g c = omega (arith, c.loop-goes_on.invariant.lat
 pub loop-goes_on-preserved : goal.loop-goes_on-preserved
 loop-goes_on-preserved g c =
     let was = c.loop-goes_on.invariant in
-    let did = c.in_ok-goes_on.ensures in
+    let did = c.in_ok-more.ensures in
     record {
       same_end = did.same_end ∙ was.same_end;
       told = did.told ∙ was.told;
