@@ -1,5 +1,5 @@
 -- The command that a list of words stands for. The words are those after the program's name, as bytes.
-use Rattle.std.specs.Prelude.{ℕ, ◌^◌, nat_le, nat_lt, ◌&&◌, Bool, false, if◌then◌else◌, List, codes, Option, Some, None, option_and_then}
+use Rattle.std.specs.Prelude.{ℕ, ◌^◌, nat_le, nat_lt, ◌&&◌, Bool, false, if◌then◌else◌, List, [], ◌∷◌, codes, Option, Some, None, option_and_then}
 use Rattle.std.specs.Option.{option_map_or}
 use Rattle.std.specs.Str.{bytes_eq}
 use Rattle.clap.specs.Words.{Row, first_of}
@@ -22,6 +22,11 @@ pub record Profiling : Type 0 where
   pub every : ℕ
   -- only the summary is reported
   pub brief : Bool
+
+-- the name of the folder, which is not empty
+unfoldable pub folder_of : List ℕ → Option (List ℕ)
+folder_of [] = None
+folder_of (byte ∷ bytes) = Some (byte ∷ bytes)
 
 -- one at least, and below 2^32, as intervals are
 abbrev pub from_1 : ℕ → Option ℕ
@@ -51,7 +56,7 @@ profiling_with _ _ _ _ schedule separate brief = None
 -- what the matched words ask for, where their values are well formed
 unfoldable pub profiling_of : List Row → Option Profiling
 profiling_of rows =
-    profiling_with (first_of (codes "machine") rows) (option_and_then exe_of (first_of (codes "exe") rows)) (first_of (codes "out") rows)
+    profiling_with (first_of (codes "machine") rows) (option_and_then exe_of (first_of (codes "exe") rows)) (option_and_then folder_of (first_of (codes "out") rows))
     (every_of (first_of (codes "every") rows)) (first_of (codes "schedule") rows) (first_of (codes "separate-cores") rows) (first_of (codes "brief") rows)
 
 -- the command that the words are, if they are one

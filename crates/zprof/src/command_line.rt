@@ -1,7 +1,7 @@
 //! The words of the command line.
 ghost use Rattle.std.specs.Prelude.{◌≡◌, map, option_map, string_bytes, IfOk};
 ghost use Rattle.clap.specs.Words.{first_of, found_of, rows_of};
-ghost use Rattle.zprof.specs.CommandLine.{command_of, every_of, is_given, profiling_of};
+ghost use Rattle.zprof.specs.CommandLine.{command_of, every_of, folder_of, is_given, profiling_of};
 ghost use Rattle.zprof.specs.CommandValue.{profiling_value};
 
 use crate::options::profile_options;
@@ -44,7 +44,7 @@ fn profiling_of<'w>(matches: &ArgMatches<'w>) -> Option<Profiling<'w>>
 {
     let machine = value(matches, "machine")?;
     let exe = exe_of(value(matches, "exe")?)?;
-    let folder = value(matches, "out")?;
+    let folder = folder_of(value(matches, "out")?)?;
     let every = every_of(value(matches, "every"))?;
     Some(Profiling {
         machine: machine_file_of(machine),
@@ -55,6 +55,14 @@ fn profiling_of<'w>(matches: &ArgMatches<'w>) -> Option<Profiling<'w>>
         every,
         brief: is_given(matches, "brief"),
     })
+}
+
+/// The name of the folder, which is not empty.
+#[tactic(auto, unfolding(crate::specs::CommandLine::folder_of))]
+fn folder_of(name: &str) -> Option<&str>
+    ensures { option_map (λ s. s.now) result ≡ folder_of name.now }
+{
+    if name.is_empty() { None } else { Some(name) }
 }
 
 /// How many intervals a row has, which is 1 where nothing is said.
