@@ -1,17 +1,18 @@
 #!/bin/sh
-# Runs the program itself, and compares its status and what it writes with docs/command-line.md: one call for each
-# status but NoMemory, words that are not UTF-8, and surroundings that fail: disks that are full, streams that are
+# Runs the programs themselves, and compares their status and what they write with docs/command-line.md: one call for
+# each status but NoMemory, words that are not UTF-8, and surroundings that fail: disks that are full, streams that are
 # closed, readers that are gone, signals, FIFOs, and names that two outputs or an input and an output have. No proof says
-# that the program hands on its words, ends with the number of the status that the call answers, and writes to the real
+# that a program hands on its words, ends with the number of the status that the call answers, and writes to the real
 # files and streams.
 #
-#     checks/program.sh            runs the program that the gate built
-#     checks/program.sh PROGRAM    runs this one
+#     checks/program.sh                   runs the programs that the gate built
+#     checks/program.sh ZSIM PROFILER     runs these
 #
 # Status 0 says that each call answered as it should.
 
 top=$(cd "$(dirname "$0")/.." && pwd) || exit 1
-program=$(realpath "${1:-$top/crates/zsim_main/out/zsim_main}") && [ -x "$program" ] || {
+program=$(realpath "${1:-$top/crates/zsim_main/out/zsim_main}") && [ -x "$program" ] &&
+    profiler=$(realpath "${2:-$top/crates/zprof_main/out/zprof_main}") && [ -x "$profiler" ] || {
     echo "program: nothing was run: there is no program"
     exit 1
 }
@@ -31,7 +32,7 @@ failed=0 calls=0
 
 # gives STATUS REPORT LINE WORD..: called with these words, the program ends with the status, standard output gains the
 # report, and standard error the line. What goes to another file than `out` is not looked at.
-to=out
+to=out name=zsim
 gives() {
     wanted=$1
     printf '%s' "${2:+$2
@@ -45,7 +46,7 @@ gives() {
     calls=$((calls + 1))
     [ "$ended" = "$wanted" ] && cmp -s err wanted_err && { [ "$to" != out ] || cmp -s out wanted_out; } && return
     failed=1
-    echo "program: zsim $*: status $ended where $wanted is right, or another text:"
+    echo "program: $name $*: status $ended where $wanted is right, or another text:"
     cat err out
 }
 
@@ -90,8 +91,8 @@ sed 's/^interval = .*/interval = 1/; s/^intervals = .*/intervals = 2/' \
 
 # A name that is not UTF-8, of a file that is there. Passed on, it would be run; with its byte replaced it would not be
 # found; left out, it would leave the words of a run behind.
-name=$(printf 'seven\377')
-cp seven "$name" || exit 1
+no_text=$(printf 'seven\377')
+cp seven "$no_text" || exit 1
 
 # What a check says of the events of `seven`, of which there are none; and a file of one event, a look-up of 10 cycles
 # that is to take 11.
@@ -120,9 +121,9 @@ gives 0 "$report" '' run plain seven --brief
 gives 2 '' "$usage"
 gives 2 '' "$usage" nothing
 gives 2 '' "$usage" run plain
-gives 2 '' "$usage" run plain "$name" --brief
-gives 2 '' "$usage" run plain seven --brief "$name"
-gives 2 '' "$usage" run plain seven --brief --record "$name"
+gives 2 '' "$usage" run plain "$no_text" --brief
+gives 2 '' "$usage" run plain seven --brief "$no_text"
+gives 2 '' "$usage" run plain seven --brief --record "$no_text"
 gives 3 "$few" 'zsim: stopped at the limit' run two seven --brief
 gives 4 '' 'zsim: cannot read' run plain missing
 gives 4 '' 'zsim: cannot read' run missing seven
@@ -253,6 +254,41 @@ if [ -c /dev/full ]; then
     ended=$?
     is 4 'a standard error that takes nothing'
 fi
+
+# The profiler, whose report of a run by one worker is that of the simulator.
+program=$profiler name=zprof
+usage='zprof: usage: zprof MACHINE EXE [--schedule NAME] --out FOLDER [--separate-cores] [--every N] [--brief]'
+mkdir profile part || exit 1
+gives 0 "$report" '' plain seven --brief --out profile
+printf 'interval,intervals,instructions,loads,stores,atomics,fetches,hits,upgrades,l2hits,misses,events,waited' >series
+printf ',bank0,controller0\n0,1,3,0,0,0,0,0,0,0,0,0,0,0,0\n' >>series
+holds profile/series.csv 'the series of a profile' series
+grep -q '^totals: 3 0 0 0 0 0 0 0 0 0 0$' profile/callgrind.out || { failed=1; echo 'program: zprof: other totals'; }
+gives 0 "$(cat load_report)" '' plain load --schedule schedule --out profile --every 2 --separate-cores
+gives 2 '' "$usage"
+gives 2 '' "$usage" plain seven
+gives 2 '' "$usage" plain "$no_text" --out profile
+gives 2 '' "$usage" run plain seven --out profile
+gives 3 "$few" 'zprof: stopped at the limit' two seven --brief --out profile
+gives 4 '' 'zprof: cannot read' plain missing --out profile
+gives 5 "$report" 'zprof: cannot write' plain seven --brief --out missing
+gives 6 '' 'zprof: machine 1' text seven --out profile
+gives 7 '' 'zprof: elf 1' plain text --out profile
+gives 9 '' 'zprof: schedule 2' plain seven --schedule zeros_16 --out profile
+gives 10 '' 'zprof: too long: machine' long seven --out profile
+
+# A file of the folder that cannot be written: those before it are whole, and those behind it are not there.
+mkdir part/series.csv
+gives 5 "$report" 'zprof: cannot write' plain seven --brief --out part
+[ -s part/callgrind.out ] && [ -s part/lines.csv ] && [ ! -e part/halts.txt ] || {
+    failed=1
+    echo 'program: zprof: other files are there where one could not be written'
+}
+rm profile/*
+"$program" plain seven --out profile >&- 2>err
+ended=$?
+is 5 'a closed standard output of the profiler'
+[ -z "$(ls profile)" ] || { failed=1; echo 'program: a closed standard output: a profile was written'; }
 
 [ "$failed" = 0 ] && echo "program: $calls calls answered as they should"
 exit "$failed"
