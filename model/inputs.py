@@ -11,12 +11,13 @@ class Untold(Exception):
 
 # ---- words
 
-# What a command has: how many words, and its options, those with a value and those without.
+# The options of a command, those with a value and those without.
 COMMANDS = {
-    "run": (2, {"--workers", "--record", "--events"}, {"--brief"}),
-    "replay": (2, {"--schedule"}, {"--brief"}),
-    "check": (2, set(), set()),
+    "run": ({"--workers", "--record", "--events"}, {"--brief"}),
+    "replay": ({"--schedule"}, {"--brief"}),
+    "check": (set(), set()),
 }
+PROFILE = {"--schedule", "--out", "--every"}, {"--separate-cores", "--brief"}
 UNSIGNED = re.compile(r"0|[1-9][0-9]*", re.ASCII)
 
 
@@ -24,9 +25,30 @@ def command_of(words):
     """Returns the command, its two words and its options. None where the words are no command."""
     if not words or words[0] not in COMMANDS:
         return None
-    command, rest = words[0], list(words[1:])
-    count, with_value, without = COMMANDS[command]
-    places, options = [], {}
+    command = words[0]
+    divided = places_and_options(words[1:], *COMMANDS[command])
+    if divided is None:
+        return None
+    places, options = divided
+    if not are_options(command, options) or command != "check" and not is_executable(places[1]):
+        return None
+    return command, places, options
+
+
+def profile_of(words):
+    """Returns the two words and the options of a call of the profiler. None where the words are no command."""
+    divided = places_and_options(words, *PROFILE)
+    if divided is None:
+        return None
+    places, options = divided
+    every = options.get("--every", "1")
+    is_number = UNSIGNED.fullmatch(every) and len(every) <= 10 and 1 <= int(every) <= 4294967295
+    return divided if is_number and "--out" in options and is_executable(places[1]) else None
+
+
+def places_and_options(words, with_value, without):
+    """Returns the two words that are no options, and the options. None where the words are others."""
+    rest, places, options = list(words), [], {}
     while rest:
         word = rest.pop(0)
         if word == "--":
@@ -45,9 +67,7 @@ def command_of(words):
         if name in with_value and value == "":
             raise Untold
         options[name] = value
-    if len(places) != count or not are_options(command, options) or command != "check" and not is_executable(places[1]):
-        return None
-    return command, places, options
+    return (places, options) if len(places) == 2 else None
 
 
 def are_options(command, options):

@@ -5,8 +5,9 @@
     model/model.py --write    writes what it answers into the stored output
 
 It is plain and slow: flat memory, lists of lines, one core after the other, and one list of events. It takes the words
-of a command, checks machines, executables, schedules and events files, and runs and replays executables. Cases that
-several workers answer keep the answers that are stored. Run it at the top of the repository.
+of a command, checks machines, executables, schedules and events files, runs and replays executables, and writes the
+files of their profiles. Cases that several workers answer keep the answers that are stored. Run it at the top of the
+repository.
 """
 
 import collections
@@ -18,6 +19,7 @@ import sys
 
 import events as events_files
 import inputs
+import profiles
 from inputs import Untold
 
 TESTS = "crates/zsim_tests"
@@ -177,9 +179,9 @@ ONE_SOURCE, TWO_SOURCES = (0x67, 0x13, 0x1B, 0x03), (0x63, 0x23, 0x33, 0x3B, 0x2
 class Core:
     """A core. Its instructions are generators: each yields the accesses that it makes, and is sent their replies."""
 
-    def __init__(self, number, machine, image):
+    def __init__(self, number, machine, image, profile):
         memory = machine["memory"]
-        self.number, self.image = number, image
+        self.number, self.image, self.profile = number, image, profile
         self.end = memory["base"] + memory["size"]
         self.x = [0] * 32
         self.x[10], self.x[11], self.x[2] = number, machine["cores"], self.end - number * memory["stack"]
@@ -188,11 +190,12 @@ class Core:
         self.halt = self.instruction = self.request = None
         self.fetches, self.line = "l1i" in machine, None
         self.pace = Pace(machine["pipe"]) if "pipe" in machine else None
-        self.console = bytearray()
+        self.console, self.jumps = bytearray(), collections.deque(maxlen=16)
 
     def count(self, w, taken=False):
         """Counts an instruction, which costs a cycle or what the pipeline makes of it."""
         self.instructions += 1
+        self.profile.execute(self.number, self.pc)
         self.clock = self.pace.issue(w, self.pc, taken, self.clock) if self.pace else self.clock + 1
 
     def set(self, register, number):
@@ -269,6 +272,8 @@ class Core:
             self.count(w, holds)
         if result is not None:
             self.set(rd, result)
+        if after != (self.pc + 4) & MASK:
+            self.jumps.append((self.pc, after))
         self.pc = after
 
     def parts(self, w, address, width):
@@ -347,6 +352,7 @@ class Trip:
     def __init__(self, components, core, head):
         self.components, self.core = components, core
         self.events, self.last, self.time = [], [], head
+        self.rows = []  # of the profile: those for which its events wait
 
     def add(self, component, kind, row, last, time):
         """Has an event at a component, and returns its place and until when it lasts."""
@@ -377,7 +383,8 @@ class Machine:
         self.l1, self.l2, self.controllers = machine["l1"], machine["l2"], machine["controllers"]
         self.l1i = machine.get("l1i")
         self.image = Image(file, machine["memory"]["base"], machine["memory"]["size"])
-        self.cores = [Core(number, machine, self.image) for number in range(machine["cores"])]
+        self.profile = profiles.Profile()
+        self.cores = [Core(number, machine, self.image, self.profile) for number in range(machine["cores"])]
         self.reservations = [None] * len(self.cores)
         self.own = [{} for _ in self.cores]  # of each core: the lines of each set, [line, letter], most recent first
         self.instructions = [{} for _ in self.cores]  # of each core: the lines of each set of its instruction cache
@@ -441,8 +448,10 @@ class Machine:
             if copy:
                 dirty = dirty or copy[1] == "M"
                 self.own_set(core, line).remove(copy)
+                self.profile.leave(core, "data", line, "inclusion")
             if self.l1i and line in self.instruction_set(core, line):
                 self.instruction_set(core, line).remove(line)
+                self.profile.leave(core, "instructions", line, "inclusion")
         return dirty
 
     def instruction_set(self, core, line):
@@ -463,7 +472,7 @@ class Machine:
             outcome = "misses", len(lines) == self.l2["ways"] and self.evict(lines)
             lines.insert(0, [line, False])
         if len(own) == self.l1i["ways"]:
-            own.pop()
+            self.profile.leave(core, "instructions", own.pop(), "eviction")
         own.insert(0, line)
         return outcome
 
@@ -491,13 +500,16 @@ class Machine:
                 other = n != core and self.copy(n, line)
                 if other and writes:
                     self.own_set(n, line).remove(other)
-                elif other:
+                    self.profile.lose(n, line)
+                elif other and other[1] != "S":
                     other[1] = "S"
+                    self.profile.lower(n, line)
         own = self.own_set(core, line)
         if copy:
             own.remove(copy)
         elif len(own) == self.l1["ways"]:
             victim = own.pop()
+            self.profile.leave(core, "data", victim[0], "eviction")
             if victim[1] == "M":
                 self.shared_entry(victim[0])[1] = True
         own.insert(0, [line, "M" if writes else letter if copy else "S" if others else "E"])
@@ -567,6 +579,7 @@ class Machine:
         stamp = max(stamps["bank", bank], stamps["core", core.number]) + 1
         stamps["bank", bank] = stamps["core", core.number] = stamp
         trip = self.trip(core.number, line, self.head(kind), outcome, flag)
+        trip.rows = self.profile.access(core.number, core.pc, *request[:3], outcome, trip.time)
         entries.append((stamp, core.number, start, trip))
         counts = self.counts[core.number]
         counts[{"load": "loads", "store": "stores", "fetch": "fetches"}.get(kind, "atomics")] += 1
@@ -577,6 +590,7 @@ class Machine:
     def bound(self, end, turns):
         """Runs an interval to its end, and returns its accesses. Of turns that are not legal, the place where."""
         entries = []
+        self.profile.begin()
         stamps = {("bank", bank): 0 for bank in range(self.l2["banks"])}
         stamps |= {("core", number): 0 for number in range(len(self.cores))}
         if turns is None:
@@ -615,6 +629,7 @@ class Machine:
     def weave(self, entries):
         """Fires the events of an interval, keeps their records, and delays the cores."""
         events, last = self.events_of(entries)
+        rows = [trip.rows for *_, trip in entries for _ in trip.events]
         starts, finishes = [event.start for event in events], [0] * len(events)
         waits, children = [len(event.parents) for event in events], [[] for _ in events]
         delays = [[self.delay(events, event, parent) for parent in event.parents] for event in events]
@@ -628,7 +643,9 @@ class Machine:
             event = events[number]
             finishes[number] = self.components.finish(event.component, event.kind, event.row, start)
             self.served[event.component] += 1
-            self.waited[event.component] += finishes[number] - start - event.latency
+            waited = finishes[number] - start - event.latency
+            self.waited[event.component] += waited
+            self.profile.wait(rows[number], self.name_of(event.component), waited)
             for child, delay in children[number]:
                 starts[child] = max(starts[child], finishes[number] + delay)
                 waits[child] -= 1
@@ -902,6 +919,8 @@ class Cases:
             name, count = rest.split()
             self.names.held[name] = self.names.held[name][: int(count)]
             return ""
+        if kind == "text":
+            return self.names.held[rest].decode()
         if kind == "show":
             return rest + "".join(f" {byte:02x}" for byte in self.names.held[rest]) + "\n"
         if kind in ("race", "count", "owners", "meet", "again"):
@@ -917,7 +936,9 @@ class Cases:
         """Returns how the call of a case ends. None where the model does not tell."""
         names = Sure()
         if kind == "call":
-            return self.cut(rest)
+            return self.cut(called, rest)
+        if kind == "profile":
+            return self.cut(profiled, rest)
         if kind == "sure":
             names.held.update(self.names.held)
             return call_on(rest, names)
@@ -946,10 +967,10 @@ class Cases:
             return call_on("run plain A", names)
         return None
 
-    def cut(self, words):
+    def cut(self, call, words):
         """Returns how a call ends on the streams that stand ready. Those of the next one take all."""
         cuts, self.cuts = self.cuts, {}
-        ended = call_on(words, self.names, cuts.get("out", [1]))
+        ended = call(words.split(), self.names, cuts.get("out", [1]))
         if ended is None:
             return None
         return Ended(ended.status, taken(ended.error, cuts.get("err", [1]))[0], ended.output)
@@ -981,10 +1002,9 @@ def contents_of(text):
     }[kind]()
 
 
-def call_on(text, names, cut=(1,)):
-    """Returns how a call on words ends whose standard output is cut so. None where the documents leave that to a
-    library."""
-    return called(text.split(), names, cut)
+def call_on(text, names):
+    """Returns how a call on words ends. None where the documents leave that to a library."""
+    return called(text.split(), names)
 
 
 # The number of each status, by what a refusal begins with.
@@ -994,6 +1014,7 @@ USAGE = (
     "usage: zsim run MACHINE EXE [--workers N] [--record NAME] [--events NAME] [--brief]"
     " or zsim replay MACHINE EXE --schedule NAME [--brief] or zsim check MACHINE EVENTS"
 )
+PROFILE_USAGE = "usage: zprof MACHINE EXE [--schedule NAME] --out FOLDER [--separate-cores] [--every N] [--brief]"
 LONGEST = {"machine": 2**20, "executable": 2**26, "schedule": 2**28, "events": events_files.MOST}
 
 
@@ -1002,20 +1023,48 @@ class Refused(Exception):
 
     def ended(self, output=""):
         status = next(number for front, number in REFUSALS.items() if str(self).startswith(front))
-        return Ended(status, f"zsim: {self}\n", output)
+        return Ended(status, f"{self}\n", output)
 
 
 def called(words, names, cut=(1,)):
-    """Returns how a call ends. None where the documents leave that to a library."""
+    """Returns how a call ends whose standard output is cut so. None where the documents leave that to a library."""
+    return ended_of("zsim", command_on, words, names, cut)
+
+
+def profiled(words, names, cut=(1,)):
+    """Returns how a call of the profiler ends. None where the documents leave that to a library."""
+    return ended_of("zprof", profile_on, words, names, cut)
+
+
+def ended_of(program, call, words, names, cut):
+    """Returns how a call ends, with the name of the program in front of its line on standard error."""
     try:
-        command = inputs.command_of(words)
-        if command is None:
-            raise Refused(USAGE)
-        return (check_on if command[0] == "check" else run_on)(*command, names, cut)
+        ended = call(words, names, cut)
     except Refused as refusal:
-        return refusal.ended()
+        ended = refusal.ended()
     except Untold:
         return None
+    return Ended(ended.status, ended.error and f"{program}: {ended.error}", ended.output)
+
+
+def command_on(words, names, cut):
+    """Returns how a call of zsim ends."""
+    command = inputs.command_of(words)
+    if command is None:
+        raise Refused(USAGE)
+    return (check_on if command[0] == "check" else run_on)(*command, names, cut)
+
+
+def profile_on(words, names, cut):
+    """Returns how a call of the profiler ends."""
+    command = inputs.profile_of(words)
+    if command is None:
+        raise Refused(PROFILE_USAGE)
+    places, options = command
+    run, ended = run_of(places, options.get("--schedule"), names)
+    made = profiles.files(run, "--separate-cores" in options, int(options.get("--every", "1")))
+    written = {f"{options['--out']}/{name}": text.encode() for name, text in made.items()}
+    return reported(run, ended, options, written, names, cut)
 
 
 def contents(name, names, what):
@@ -1029,31 +1078,41 @@ def contents(name, names, what):
     return file
 
 
-def run_on(command, places, options, names, cut):
+def run_on(_, places, options, names, cut):
     """Returns how a run or a replay ends."""
+    run, ended = run_of(places, options.get("--schedule"), names)
+    events = events_files.events_file(len(run.free), run.records)
+    if "--events" in options and len(events) > events_files.MOST:
+        raise Refused("too long: events")
+    made = {"--record": schedule_file(len(run.cores), run.schedule), "--events": events}
+    written = {options[option]: file for option, file in made.items() if option in options}
+    return reported(run, ended, options, written, names, cut)
+
+
+def run_of(places, schedule, names):
+    """Returns a machine that ran under the schedule of a file, where one is given, and how the run ended."""
     run = machine_of(*places, names)
-    cores = len(run.cores)
     try:
-        lists = schedule_of(contents(options["--schedule"], names, "schedule"), cores) if command == "replay" else None
+        lists = schedule_of(contents(schedule, names, "schedule"), len(run.cores)) if schedule is not None else None
         ended = run.run(lists)
         if isinstance(ended, tuple):
             raise BadSchedule(f"7 {ended[0]} {ended[1]}")
     except BadSchedule as wrong:
         raise Refused(f"schedule {wrong}") from wrong
-    events = events_files.events_file(len(run.free), run.records)
-    if "--events" in options and len(events) > events_files.MOST:
-        raise Refused("too long: events")
+    return run, ended
+
+
+def reported(run, ended, options, written, names, cut):
+    """Returns how a call ends that reports a run, and then writes files."""
     output = put(report(run, "--brief" in options), cut)
     if isinstance(output, Ended):
         return output
     try:
-        if "--record" in options:
-            names.write(options["--record"], schedule_file(cores, run.schedule))
-        if "--events" in options:
-            names.write(options["--events"], events)
+        for name, file in written.items():
+            names.write(name, file)
     except Cannot as what:
         return Refused(f"cannot {what}").ended(output)
-    return Ended(*{"ran": (0, ""), "limit": (3, "zsim: stopped at the limit\n")}[ended], output)
+    return Ended(*{"ran": (0, ""), "limit": (3, "stopped at the limit\n")}[ended], output)
 
 
 def check_on(_, places, __, names, cut):
@@ -1096,15 +1155,24 @@ def machine_of(machine, name, names):
     return Machine(description, file)
 
 
+# What a case answers in one line, or in none.
+IN_LINE = ("#", "describe", "show", "find", "kept", "events", "rounds")
+SILENT = ("hold", "set", "cut", "anew", "out", "err")
+# How the answer begins that stands behind a text: a comment, a text of a profile, or what a call puts on a stream.
+BEHIND_TEXT = re.compile(r"# |line,|interval,|core 0$|zsim[ :]|zprof:")
+
+
 def stored_answers(cases, text):
     """Returns what is stored for each case."""
     lines, answers = text.splitlines(keepends=True), []
     for case in cases:
         kind, count = case.split(" ", 1)[0], 1
-        is_line = kind in ("#", "describe", "show", "find", "kept", "events", "rounds") or kind == "again" and lines[0] == "the same\n"
-        if kind in ("hold", "set", "cut", "anew", "out", "err"):
+        if kind in SILENT:
             count = 0
-        elif not is_line:
+        elif kind == "text":
+            while count < len(lines) and not BEHIND_TEXT.match(lines[count]):
+                count += 1
+        elif kind not in IN_LINE and not (kind == "again" and lines[0] == "the same\n"):
             while not lines[count - 1].startswith("status "):
                 count += 1
             count += {"count": 2, "meet": 2, "owners": 3}.get(kind, 0)

@@ -1,7 +1,7 @@
 //! What a call answers, and how it is written.
 use crate::gates::CaseGate;
 use crate::page::Page;
-use crate::top_call::answer;
+use crate::top_call::{answer, profile_answer};
 use access_log::Schedule;
 use std::alloc::Global;
 use std::sync::Wait;
@@ -63,6 +63,18 @@ pub fn call<F: Files>(
         &mut streams.err,
         gate,
     );
+    Called { ended, streams }
+}
+
+/// Calls the profiler on these words, over these files and streams.
+pub fn profile<F: Files>(
+    rt: &(impl Threads + Wait + Sync),
+    alloc: Global,
+    words: &[String],
+    files: &mut F,
+    mut streams: Streams,
+) -> Called {
+    let ended = profile_answer(rt, alloc, words, files, &mut streams.out, &mut streams.err);
     Called { ended, streams }
 }
 

@@ -21,11 +21,12 @@
 //! - `hold NAME CONTENTS`: what the name holds from here on.
 //! - `set NAME INDEX BYTE`, `cut NAME COUNT`: of what it holds a byte is another one, or only so many
 //!   bytes are left.
-//! - `show NAME`: the bytes that it holds.
+//! - `show NAME`: the bytes that it holds; `text NAME`: the same as they stand.
 //! - `out MOST N..`, `err MOST N..`: standard output or standard error of the next call takes at
 //!   most so many bytes a put, and the puts with these numbers fail.
-//! - `call WORDS`: the words of a call over what the names hold.
-//! - `race WORDS`: the same, but only what no order of accesses changes is written.
+//! - `call WORDS`: the words of a call over what the names hold; `profile WORDS`: those of a call of
+//!   the profiler.
+//! - `race WORDS`: a call of which only what no order of accesses changes is written.
 //! - `count WORDS`: the same, and who passed the gate; `owners WORDS`: and whether the workers of
 //!   their domains fired the events, where two workers have two domains.
 //! - `meet WORDS`: a call in which two cores, and then two domains, wait for each other at the

@@ -1,5 +1,5 @@
 //! The calls of the cases: what names hold, the streams, and what the last call answered.
-use crate::answers::{Called, Streams, call, write_ended};
+use crate::answers::{Called, Streams, call, profile, write_ended};
 use crate::contents::put_contents;
 use crate::gates::{CaseGate, CountingGate, write_met};
 use crate::page::Page;
@@ -63,7 +63,9 @@ impl Scene {
             "show" => self.write_held(rest, page),
             "out" => self.set_out(alloc, rest),
             "err" => self.set_err(alloc, rest),
+            "text" => self.write_text(rest, page),
             "call" => self.write_called(rt, alloc, rest, page),
+            "profile" => self.write_profiled(rt, alloc, rest, page),
             "race" => self.write_race(rt, alloc, rest, page),
             "meet" => self.write_met(rt, alloc, rest, page),
             "count" => self.write_counts(rt, alloc, rest, false, page),
@@ -155,6 +157,12 @@ impl Scene {
         Some(())
     }
 
+    /// Writes what a name holds, as it stands.
+    fn write_text(&self, name: &str, page: &mut Page) -> Option<()> {
+        page.put(self.files.get(name)?);
+        Some(())
+    }
+
     /// Calls on these words past this gate, over what the names hold and the streams that stand
     /// ready. Those of the next call take all.
     fn call(
@@ -190,6 +198,22 @@ impl Scene {
     ) -> Option<()> {
         self.call(rt, alloc, words, CaseGate::Open)?;
         self.last.as_ref()?.write(page);
+        Some(())
+    }
+
+    /// Writes what a call of the profiler answers.
+    fn write_profiled(
+        &mut self,
+        rt: &(impl Threads + Wait + Sync),
+        alloc: Global,
+        words: &str,
+        page: &mut Page,
+    ) -> Option<()> {
+        let words = words_of(alloc, words)?;
+        let streams = mem::replace(&mut self.streams, Streams::new(alloc)?);
+        let called = profile(rt, alloc, &words, &mut self.files, streams);
+        called.write(page);
+        self.last = Some(called);
         Some(())
     }
 
