@@ -12,7 +12,6 @@ import pytest
 
 HERE = Path(__file__).resolve().parent
 REPOSITORY = HERE.parents[1]
-BUILT = REPOSITORY / "crates/zsim_main/out/zsim_main"
 
 sys.path.insert(0, str(HERE.parent))
 
@@ -113,28 +112,40 @@ def repository():
 @pytest.fixture(scope="session")
 def built_zsim():
     """The program that the variable ZSIM names, or that of this checkout. It is not built for a test."""
-    named = os.environ.get("ZSIM")
+    return built("zsim")
+
+
+@pytest.fixture(scope="session")
+def built_zprof():
+    """The program that the variable ZPROF names, or that of this checkout, as above."""
+    return built("zprof")
+
+
+def built(name):
+    """Returns a program that is there, or skips the test."""
+    named = os.environ.get(name.upper())
     if named:
         return named
-    if not os.access(BUILT, os.X_OK):
-        pytest.skip(f"zsim is not built: there is no {BUILT}")
-    newer = newer_source()
+    program = REPOSITORY / f"crates/{name}_main/out/{name}_main"
+    if not os.access(program, os.X_OK):
+        pytest.skip(f"{name} is not built: there is no {program}")
+    newer = newer_source(program)
     if newer:
-        pytest.skip(f"zsim is not built: {newer} is newer than {BUILT}")
-    return str(BUILT)
+        pytest.skip(f"{name} is not built: {newer} is newer than {program}")
+    return str(program)
 
 
-def newer_source():
+def newer_source(program):
     """Returns a source that is newer than the program, if there is one, as the script `prove` looks for it."""
-    built = BUILT.stat().st_mtime_ns
+    built_at = program.stat().st_mtime_ns
     crates = REPOSITORY / "crates.txt"
-    if crates.stat().st_mtime_ns > built:
+    if crates.stat().st_mtime_ns > built_at:
         return crates
     for folder, folders, files in os.walk(REPOSITORY / "crates"):
         folders[:] = [name for name in folders if name not in ("out", "must-fail") and not name.endswith("_tests")]
         for name in files:
             path = Path(folder, name)
-            if path.stat().st_mtime_ns > built:
+            if path.stat().st_mtime_ns > built_at:
                 return path
     return None
 

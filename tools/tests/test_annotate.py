@@ -5,6 +5,7 @@ import shutil
 import subprocess
 
 import pytest
+from conftest import HERE
 from elf_files import ABSOLUTE, DATA, FUNC, GLOBAL, IN_DATA, IN_TEXT, LOCAL, NOTYPE, OBJECT, TEXT, UNDEFINED, elf_file
 
 from zsim_tools import symbols
@@ -131,24 +132,68 @@ def test_what_is_no_profile(text, told):
     assert str(raised.value) == f"callgrind.out: {told}"
 
 
-@pytest.mark.skipif(shutil.which("callgrind_annotate") is None, reason="there is no callgrind_annotate")
+needs_callgrind_annotate = pytest.mark.skipif(
+    shutil.which("callgrind_annotate") is None, reason="there is no callgrind_annotate"
+)
+
+
+@needs_callgrind_annotate
 @pytest.mark.parametrize("text, main", [(SUMMED, (6, 0, 2)), (BY_CORE, (0, 0, 0))])
 def test_callgrind_annotate_reads_it(tmp_path, text, main):
     """It has the totals, and what each function came to, in its own file and in others."""
-    (tmp_path / "callgrind.out").write_text("".join(f"{line}\n" for line in lines_of(text)))
+    by_name = read_by_callgrind_annotate(tmp_path, lines_of(text))
+    assert by_name["PROGRAM TOTALS"] == totals_of(text)
+    assert by_name["/src/b.h:main"] == (5, 5, 40)
+    assert by_name.get("/src/a.c:main", (0, 0, 0)) == main
+
+
+# What zprof writes of examples/race.elf on examples/machines/desktop.toml: of all cores together, and with a group of
+# lines for each of the four.
+STORED = {"race.callgrind.out": (), "race_cores.callgrind.out": ("--separate-cores",)}
+
+
+@needs_callgrind_annotate
+@pytest.mark.parametrize("name", STORED)
+def test_callgrind_annotate_has_the_totals_of_zprof(tmp_path, name):
+    """It reads the file that zprof writes, and the one that has names, and prints the totals that both have."""
+    text = (HERE / "data" / name).read_text()
+    plain = read_by_callgrind_annotate(tmp_path, text.splitlines())
+    named = read_by_callgrind_annotate(tmp_path, lines_of(text))
+    assert totals_of(text) == (24, 4, 4, 0, 0, 1, 3, 3, 1, 796, 12)
+    assert plain == {"PROGRAM TOTALS": totals_of(text), "???:???": totals_of(text)}
+    assert named["PROGRAM TOTALS"] == totals_of(text)
+    # All loads are those of the one instruction that is of b.h.
+    assert named["/src/b.h:main"] == (4, 4, 0, 0, 0, 0, 0, 3, 1, 570, 12)
+    assert named["/src/a.c:main"] == (20, 0, 4, 0, 0, 1, 3, 0, 0, 226, 0)
+
+
+@pytest.mark.parametrize("name", STORED)
+def test_the_stored_profiles_are_those_of_zprof(built_zprof, repository, tmp_path, name):
+    machine, executable = repository / "examples/machines/desktop.toml", repository / "examples/race.elf"
+    words = [built_zprof, machine, executable, "--out", tmp_path, *STORED[name]]
+    subprocess.run(words, check=True, capture_output=True)
+    assert (tmp_path / "callgrind.out").read_text() == (HERE / "data" / name).read_text()
+
+
+def read_by_callgrind_annotate(folder, lines):
+    """Returns what callgrind_annotate prints of the lines of a profile: the numbers of each function by its name, and
+    the totals."""
+    (folder / "callgrind.out").write_text("".join(f"{line}\n" for line in lines))
     words = ["callgrind_annotate", "--auto=no", "--threshold=100", "--show-percs=no", "callgrind.out"]
-    ended = subprocess.run(words, cwd=tmp_path, capture_output=True, text=True, check=True)
+    ended = subprocess.run(words, cwd=folder, capture_output=True, text=True, check=True)
     assert ended.stderr == ""
-    found = re.findall(r"(?m)^ *([0-9.]+ +[0-9.]+ +[0-9.]+) +(.*)$", ended.stdout)
-    by_name = {name.split(" [")[0].strip(): numbers for numbers, name in found}
-    assert numbers_of(by_name["PROGRAM TOTALS"]) == numbers_of(text.splitlines()[-1].removeprefix("totals: "))
-    assert numbers_of(by_name["/src/b.h:main"]) == (5, 5, 40)
-    assert numbers_of(by_name.get("/src/a.c:main", "0 0 0")) == main
+    found = re.findall(r"(?m)^ *((?:[0-9,.]+ +)+)(.*)$", ended.stdout)
+    return {name.split(" [")[0].strip(): numbers_of(numbers) for numbers, name in found}
+
+
+def totals_of(text):
+    """Returns the numbers of a profile's last line."""
+    return numbers_of(text.splitlines()[-1].removeprefix("totals: "))
 
 
 def numbers_of(text):
-    """Returns numbers as callgrind_annotate has them, with a point for what was never counted."""
-    return tuple(map(int, text.replace(".", "0").split()))
+    """Returns numbers as callgrind_annotate has them: with commas, and with a point for what was never counted."""
+    return tuple(int(number.replace(",", "").replace(".", "0")) for number in text.split())
 
 
 def test_functions_stand_before_labels():

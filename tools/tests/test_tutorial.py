@@ -2,65 +2,24 @@
 what the page shows."""
 
 import os
-import re
 import shlex
-import shutil
-import subprocess
 
 import pytest
+from pages import clone_of, parts_of, run_page
 from test_plots import bars_of, size_of, texts_of, ticks_of
 
 from zsim_tools import plots
 
-COMMAND = re.compile(r"(?m)^\$ ((?:.*\\\n)*.*)\n((?:(?!\$ ).*\n)*)")
-# What is not the same each time.
-TIMES = re.compile(r"(?m)^(seconds|instructions_per_second) .*$")
-
-
-def parts_of(page):
-    """Returns the page's parts in order: of a file its name and text, and of a command its text and what it prints."""
-    parts, name = [], None
-    for text in re.split(r"(?ms)^(```[a-z]+\n.*?^```\n)", page):
-        block = re.fullmatch(r"(?s)```([a-z]+)\n(.*)```\n", text)
-        if block and block[1] == "console":
-            parts += [("command", *found) for found in COMMAND.findall(block[2])]
-        elif block and name:
-            parts.append(("file", name, block[2]))
-        named = re.search(r"into\s+`(tour/[A-Za-z0-9_.]+)`[^`]*\Z", text)
-        name = named[1] if named else None
-    return parts
-
-
-def printed(text):
-    """Returns what a command prints without spaces at the ends of lines, and without times."""
-    return TIMES.sub(r"\1", "".join(f"{line.rstrip()}\n" for line in text.splitlines()))
-
 
 @pytest.fixture
 def clone(built_zsim, repository, tmp_path):
-    """What a clone has, as far as the page needs it, in a folder of its own."""
-    if shutil.which("riscv64-unknown-elf-gcc") is None:
-        pytest.skip("there is no riscv64-unknown-elf-gcc")
-    for name in ("tools", "examples"):
-        (tmp_path / name).symlink_to(repository / name)
-    (tmp_path / "zsim").write_text(f'#!/bin/sh\nexec "{built_zsim}" "$@"\n')
-    (tmp_path / "zsim").chmod(0o755)
-    return tmp_path
+    return clone_of(repository, tmp_path, zsim=built_zsim)
 
 
 def test_the_tutorial_as_it_stands(clone, built_zsim, repository, monkeypatch, command):
     parts = parts_of((repository / "docs/tutorial.md").read_text())
     assert [kind for kind, _, _ in parts].count("file") == 4 and len(parts) == 20
-    variables = {**os.environ, "ZSIM": os.path.abspath(built_zsim)}
-    for kind, what, text in parts:
-        if kind == "file":
-            (clone / what).write_text(text)
-            continue
-        streams = {"stdin": subprocess.DEVNULL, "stdout": subprocess.PIPE, "stderr": subprocess.STDOUT}
-        ended = subprocess.run(
-            ["sh", "-c", what], cwd=clone, env=variables, text=True, timeout=200, check=False, **streams
-        )
-        assert printed(ended.stdout) == printed(text), what
+    run_page(parts, clone, {**os.environ, "ZSIM": os.path.abspath(built_zsim)})
     draw_again(clone, repository, monkeypatch, command, [what for kind, what, _ in parts if " plot " in what])
 
 
