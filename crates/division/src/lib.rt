@@ -2,7 +2,8 @@
 //! shift or a mask takes a processor a few cycles, and a division some twenty to forty.
 #![tactic(auto)]
 
-ghost use Rattle.std.specs.Prelude.{◌≡◌, ◌^◌, ◌/◌, ◌%◌, ◌<◌, IfSome};
+ghost use Rattle.std.specs.Prelude.{◌≡◌, ◌^◌, ◌/◌, ◌%◌, ◌<◌, IsTrue};
+ghost use Rattle.std.specs.Int.{trailing_zeros, w64};
 
 /// `number / by`, rounded down.
 #[inline(always)]
@@ -10,9 +11,10 @@ pub fn quotient(number: u64, by: u64) -> u64
     requires { 0 < by }
     ensures { result ≡ number / by }
 {
-    match power_of(by) {
-        Some(power) => number >> power,
-        None => number / by,
+    if is_power(by) {
+        number >> by.trailing_zeros()
+    } else {
+        number / by
     }
 }
 
@@ -22,24 +24,21 @@ pub fn remainder(number: u64, by: u64) -> u64
     requires { 0 < by }
     ensures { result ≡ number % by }
 {
-    match power_of(by) {
-        Some(_power) => number & (by - 1),
-        None => number % by,
+    if is_power(by) {
+        number & (by - 1)
+    } else {
+        number % by
     }
 }
 
-/// The power of two that a number is, if it is one.
+/// Whether a number is a power of two. Then its lowest bit is its only one, and none is left of it
+/// and the number before.
 #[inline(always)]
 #[tactic(auto, using(crate::proofs::Powers::below_width))]
-fn power_of(number: u64) -> Option<u32>
+fn is_power(number: u64) -> bool
     requires { 0 < number }
-    ensures power { IfSome result (λ power. number ≡ 2 ^ power) }
-    ensures small { IfSome result (λ power. power < 64) }
+    ensures power { IsTrue result → number ≡ 2 ^ trailing_zeros w64 number }
+    ensures small { trailing_zeros w64 number < 64 }
 {
-    let power = number.trailing_zeros();
-    if number == 1 << power {
-        Some(power)
-    } else {
-        None
-    }
+    number & (number - 1) == 0
 }
