@@ -6,7 +6,7 @@ use Rattle.cache_set.specs.declared.letter.Letter.{Letter}
 use Rattle.l1_cache.specs.declared.near.Kept.{Kept}
 use Rattle.l1_cache.specs.declared.data_ways.DataWays.{DataWays}
 use Rattle.l1_cache.specs.declared.l1i.InstructionWays.{InstructionWays}
-use Rattle.l1_cache.specs.L1State.{Copy, HasEntered, L1State, answered_in, copy_at, filled_in, victim_in}
+use Rattle.l1_cache.specs.L1State.{Copy, HasEntered, L1State, answered_in, copy_at, filled_in, may_write, victim_in}
 use Rattle.l1_cache.specs.Layout.{AreParts, HasAt, copies_in, copy_in, l1_view, no_kept}
 use Rattle.l1_cache.proofs.Views.{answered, copy_there, with_sets}
 
@@ -35,6 +35,11 @@ came_with letter = record { letter = letter; free = false }
 
 not_free : Kept → Kept
 not_free x = record { letter = x.letter; free = false }
+
+-- nor is it free to write
+pub closed_there : {v : DataWays} {bytes : List (List ℕ)} {l1i : InstructionWays} (now : AreParts v bytes l1i) (line p : ℕ) (k : Kept) → HasAt v line p → get_or v.kept.items p no_kept ≡ k → k.free ≡ false
+    → may_write (copy_at (l1_view v bytes l1i) line) ≡ false
+closed_there now line p k at kept_is closed = ap may_write (copy_there now line p at) ∙ (ap (λ (x : Kept). x.free) kept_is ∙ closed)
 
 module _ {v : DataWays} {bytes : List (List ℕ)} {l1i : InstructionWays} (now : AreParts v bytes l1i) (old : L1State) (line p : ℕ) (letter : Letter) (at : HasAt v line p)
     (kept_is : get_or v.kept.items p no_kept ≡ came_with letter)

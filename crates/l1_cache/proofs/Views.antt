@@ -136,6 +136,13 @@ module _ {w : DataWays} {bytes : List (List ℕ)} {l1i : InstructionWays} (parts
         → with_sets w l1i (sets_in w.tags.sets w.tags.ways ages tags (copies_in (set kept p k) (set bytes p b))) ≡ answered_in line now free view
     answered free b now k e same = answered_with free b k e ∙ ap (λ (l : List ℕ). answered_in line l free view) same
 
+    -- where it isn't free to write, its bytes alone are others
+    pub given : its.free ≡ false → (b now : List ℕ) → b ≡ now
+        → with_sets w l1i (sets_in w.tags.sets w.tags.ways ages tags (copies_in kept (set bytes p b))) ≡ answered_in line now false view
+    given closed b now same =
+        ap (λ (l : List Kept). with_sets w l1i (sets_in w.tags.sets w.tags.ways ages tags (copies_in l (set bytes p b)))) (sym (set-get_or kept p no_kept))
+        ∙ answered false b now its (ap (λ (f : Bool). record { letter = its.letter; free = f }) closed) same
+
     -- ---- it is used: the ages are written anew, or not, before
 
     module _ (age : ℕ) (anew : List ℕ) (order : IsSameOrder w.tags.sets w.tags.ways ages anew) (all : length anew ≡ w.tags.sets * w.tags.ways)

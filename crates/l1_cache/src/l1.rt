@@ -1,8 +1,9 @@
 //! The L1 of one core.
-ghost use Rattle.std.specs.Prelude.{◌≡◌, ℕ, ◌+◌, ◌<◌, ◌≤◌, ◌^◌, false, true, if◌then◌else◌, is_some, length, option_map, unwrap_or, IfOk, IfSome, IfNone, IsSome, IsTrue, None};
+ghost use Rattle.std.specs.Prelude.{◌≡◌, ℕ, ◌+◌, ◌<◌, ◌≤◌, ◌^◌, ◌&&◌, not, false, true, if◌then◌else◌, is_some, length, option_map, unwrap_or, IfOk, IfSome, IfNone, IsSome, IsTrue, None};
 ghost use Rattle.zs_num.specs.Request.{addr_of, line_at, line_bytes, width_of};
 ghost use Rattle.zs_num.specs.declared.request.Request.TheVariants.{Load, Store, Fetch};
-ghost use Rattle.l1_cache.specs.L1State.{AreBytesOf, HasEntered, answered_in, copy_at, filled_in, given_up_in, has_instructions, instruction_filled_in, instruction_given_up_in, instruction_victim_in, is_private, kept_with_in, letter_of, new_l1, place_in_line, private_after, private_reply, set_free_in, shared_in, victim_in, written_in};
+ghost use Rattle.cache_set.specs.LetterFacts.{is_alone};
+ghost use Rattle.l1_cache.specs.L1State.{AreBytesOf, HasEntered, answered_in, copy_at, filled_in, given_up_in, has_instructions, instruction_filled_in, instruction_given_up_in, instruction_victim_in, is_private, kept_with_in, letter_of, may_write, new_l1, number_of, place_in_line, private_after, private_reply, set_free_in, shared_in, victim_in, written_in};
 
 use crate::data_ways::DataWays;
 use crate::l1i::InstructionWays;
@@ -323,12 +324,13 @@ impl L1 {
 
     /// A line that is not there comes in with this letter, and isn't free to write. The answer is
     /// the victim that leaves for it, with its letter, None where there is room for both. The bytes
-    /// of the victim stand for those of the line until `answer` gives it its own.
+    /// of the victim stand for those of the line until `fill` gives it its own.
     #[inline(always)]
     pub fn enter(&mut self, line: u64, letter: Letter) -> Option<(u64, Letter)>
         requires { copy_at self.old line ≡ None }
         ensures victim { result ≡ option_map (λ victim. (victim.0, victim.1.letter)) (victim_in self.old line) }
         ensures after { HasEntered self.old line letter self.new }
+        ensures closed { may_write (copy_at self.new line) ≡ false }
     {
         let entered = self.ways.tags.enter(self.ways.shards, line);
         let place = entered.place;
@@ -348,17 +350,54 @@ impl L1 {
         }
     }
 
-    /// A store that was served elsewhere writes to a line that is there. It is free to write from
-    /// now on, or not.
+    /// The bytes of a line that is there and not free to write, as one that came in by `enter`: only
+    /// they change.
     #[inline(always)]
-    pub fn write(&mut self, addr: u64, width: u8, value: u64, free: bool)
+    pub fn fill(&mut self, line: u64, bytes: &[u8])
+        requires there { IsSome (copy_at self.old line) }
+        requires closed { may_write (copy_at self.old line) ≡ false }
+        requires bytes { length bytes.now ≡ line_bytes }
+        ensures { self.new ≡ answered_in line bytes.now false self.old }
+    {
+        if let Some(place) = self.ways.find(line) {
+            self.bytes[place].copy_from_slice(bytes);
+        }
+    }
+
+    /// A load that was served elsewhere reads a line that is there. It is free to write from now on
+    /// where this core alone has it, and unless others have marked it.
+    #[inline(always)]
+    pub fn load_shared(&mut self, addr: u64, width: u8, marked: bool) -> u64
+        requires there { IsSome (copy_at self.old (line_at addr)) }
+        requires some { 1 ≤ width }
+        requires few { width ≤ 8 }
+        requires within { place_in_line addr + width ≤ line_bytes }
+        ensures reply { result ≡ number_of (copy_at self.old (line_at addr)) (place_in_line addr) width }
+        ensures after { self.new ≡ set_free_in (line_at addr) (is_alone (letter_of (copy_at self.old (line_at addr))) && not marked) self.old }
+    {
+        let line = addr / LINE;
+        match self.ways.find(line) {
+            Some(place) => {
+                let free = is_free(self.ways.kept[place].letter, marked);
+                self.ways.set_free(line, place, free);
+                numbers::read(&self.bytes[place], (addr % LINE) as usize, width)
+            }
+            None => 0,
+        }
+    }
+
+    /// A store that was served elsewhere writes to a line that is there. It is free to write from now
+    /// on where this core alone has it, and unless others have marked it.
+    #[inline(always)]
+    pub fn store_shared(&mut self, addr: u64, width: u8, value: u64, marked: bool)
         requires there { IsSome (copy_at self.old (line_at addr)) }
         requires few { width ≤ 8 }
         requires within { place_in_line addr + width ≤ line_bytes }
-        ensures { self.new ≡ written_in addr width value free self.old }
+        ensures { self.new ≡ written_in addr width value (is_alone (letter_of (copy_at self.old (line_at addr))) && not marked) self.old }
     {
         let line = addr / LINE;
         if let Some(place) = self.ways.find(line) {
+            let free = is_free(self.ways.kept[place].letter, marked);
             self.ways.set_free(line, place, free);
             numbers::write(&mut self.bytes[place], (addr % LINE) as usize, width, value);
         }
@@ -392,17 +431,6 @@ impl L1 {
         if let Some(place) = self.ways.find(line) {
             self.ways.set_free(line, place, free);
             self.bytes[place].copy_from_slice(bytes);
-        }
-    }
-
-    /// An access that was served elsewhere leaves a line that is there with its own bytes. It is
-    /// free to write from now on, or not.
-    pub fn set_free(&mut self, line: u64, free: bool)
-        requires { IsSome (copy_at self.old line) }
-        ensures { self.new ≡ set_free_in line free self.old }
-    {
-        if let Some(place) = self.ways.find(line) {
-            self.ways.set_free(line, place, free);
         }
     }
 
@@ -450,6 +478,17 @@ impl L1 {
             self.instructions.near[index] = Near::NONE;
             self.instructions.tags.ages[place] = 0;
         }
+    }
+}
+
+/// Whether a line is free to write for a core with this letter, where others have marked it or not.
+#[inline(always)]
+fn is_free(letter: Letter, marked: bool) -> bool
+    ensures { result ≡ (is_alone letter && not marked) }
+{
+    match letter {
+        Letter::M | Letter::E => !marked,
+        Letter::S | Letter::I => false,
     }
 }
 

@@ -6,8 +6,9 @@ use Rattle.zs_num.specs.Request.{line_at, line_of}
 use Rattle.zs_num.specs.declared.request.Request.{Request}
 use Rattle.zs_num.specs.declared.request.Request.TheVariants.{Load}
 use Rattle.cache_set.specs.declared.letter.Letter.TheVariants.{I}
+use Rattle.flat_memory.specs.FlatMemory.{number_in}
 use Rattle.home.specs.HomeState.{HomeState, is_marked_by_others}
-use Rattle.l1_cache.specs.L1State.{Copy, L1State, answered_in, copy_at, is_private, letter_of, set_free_in}
+use Rattle.l1_cache.specs.L1State.{Copy, L1State, answered_in, copy_at, is_private, letter_of, number_of, set_free_in}
 use Rattle.shard.specs.BankSteps.{bank_with}
 use Rattle.shard.specs.Coherence.{is_alone}
 use Rattle.shard.specs.Marks.{bytes_after, marks_after}
@@ -22,6 +23,11 @@ pub load_absent : (l1 : L1State) (request : Request) (addr width : ℕ) → requ
 unfolding is_private
 load_absent l1 request addr width is shared =
     none_has (copy_at l1 (line_at addr)) (sym (ap (is_private l1) is) ∙ shared) ∙ sym (ap (λ (r : Request). letter_of (copy_at l1 (line_of r))) is)
+
+-- what a line that is there has
+pub number_there : (o : Option Copy) (place width : ℕ) → IsSome o → number_of o place width ≡ number_in (bytes_of o) place width
+number_there None place width there = absurd cc
+number_there (Some copy) place width there = refl
 
 freed_as : (l1 : L1State) (line : ℕ) (free : Bool) (o : Option Copy) → copy_at l1 line ≡ o → IsSome o → set_free_in line free l1 ≡ answered_in line (bytes_of (copy_at l1 line)) free l1
 unfolding set_free_in

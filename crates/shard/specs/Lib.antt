@@ -16,3 +16,4 @@ pub mod ShardLayout
 pub mod SharedStep
 pub mod StandsFor
 pub mod Touched
+pub mod TakenPart

@@ -1,12 +1,13 @@
 //! What an access of a core does to the home of its line and to the L1s of the cores.
-ghost use Rattle.std.specs.Prelude.{◌≡◌, ◌+◌, ◌<◌, ◌≤◌, IfNone, IfSome, IsTrue, Some, false, true, if◌then◌else◌, is_some, length, slice_index_or};
+ghost use Rattle.std.specs.Prelude.{◌≡◌, ◌+◌, ◌<◌, ◌≤◌, ◌&&◌, List, IfNone, IfSome, IsTrue, Some, false, true, if◌then◌else◌, is_some, length, slice_index_or};
 ghost use Rattle.zs_num.specs.Request.{addr_of, is_fetch, line_bytes, line_of, width_of};
-ghost use Rattle.home.specs.HomeState.{evicted_by, row_at};
+ghost use Rattle.home.specs.HomeState.{HomeState, evicted_by, row_at};
 ghost use Rattle.home.specs.Rows.{line_in};
-ghost use Rattle.l1_cache.specs.L1State.{has_instructions, is_private, no_l1, place_in_line, private_after, private_reply};
-ghost use Rattle.shard.specs.BankSteps.{bank_with, line_met};
+ghost use Rattle.l1_cache.specs.L1State.{L1State, has_instructions, is_private, no_l1, place_in_line, private_after, private_reply};
+ghost use Rattle.shard.specs.BankSteps.{CanBring, bank_with, line_met};
+ghost use Rattle.shard.specs.TakenPart.{taken_part};
 ghost use Rattle.shard.specs.Coherence.{fetch_outcome_by, is_write, own_after};
-ghost use Rattle.shard.specs.SharedStep.{bank_after, bank_reply, fetched_from, is_dirty_here, met_at_bank, own_letter, ready_by, ready_from_home, ready_from_l2, ready_where_shared, shared_after, shared_reply, with_l1};
+ghost use Rattle.shard.specs.SharedStep.{bank_after, bank_reply, brought_to_own, fetched_from, is_dirty_here, is_some_core, met_at_bank, others_of, own_letter, ready_by, ready_from_home, ready_from_l2, ready_where_shared, shared_after, shared_reply, with_l1};
 ghost use Rattle.shard.specs.Seen.{no_home};
 ghost use Rattle.shard.specs.Touched.{HasTouched, HasTouchedFor, HasTouchedToFetch};
 
@@ -254,31 +255,86 @@ fn bring(home: &mut Home, l1s: &mut [L1], core: u16, line: u64, write: bool) -> 
     ensures outcome { result ≡ line_met (bank_with home.old l1s.old) core line write }
     ensures cores { length l1s.new ≡ length l1s.old }
 {
+    let coming = make_way(home, l1s, core, line, write);
+    bring_own(home, l1s, core, line, coming.letter);
+    take_part(home, line, core, coming.shares);
+    coming.outcome
+}
+
+/// How a line comes into a core's L1 from its home, where the L2 has it.
+#[derive(Clone, Copy)]
+struct Coming {
+    letter: Letter,
+    /// Whether the core is the only one that has it then, where that is asked of the home: None where
+    /// it is known to be.
+    shares: Option<bool>,
+    outcome: Outcome,
+}
+
+/// A line that a core doesn't have can come into its L1: the L2 has it, and the others have it as
+/// they may. What is left is to bring it, and to keep at home that the core has it.
+#[inline(always)]
+fn make_way(home: &mut Home, l1s: &mut [L1], core: u16, line: u64, write: bool) -> Coming
+    requires touched { HasTouchedFor (bank_with home.old l1s.old) core line write }
+    requires own { own_letter (bank_with home.old l1s.old) core line ≡ Letter.I }
+    ensures can { CanBring (bank_with home.new l1s.new) core line }
+    ensures rest { (brought kept : HomeState) (l1s_then : List L1State) → bank_with brought l1s_then ≡ brought_to_own result.letter core line (bank_with home.new l1s.new)
+        → kept ≡ taken_part line core result.shares brought → bank_with kept l1s_then ≡ ready_from_home write core line (row_at home.old line) (bank_with home.old l1s.old) }
+    ensures outcome { result.outcome ≡ line_met (bank_with home.old l1s.old) core line write }
+    ensures cores { length l1s.new ≡ length l1s.old }
+{
     match home.meet(line) {
         Some(row) => {
             if write {
                 leave_others(home, l1s, core, line, row);
-                bring_own(home, l1s, core, line, Letter::M);
-                home.own(line, core);
-                Outcome::L2 {
-                    others: has_other(row, core),
+                Coming {
+                    letter: Letter::M,
+                    shares: None,
+                    outcome: Outcome::L2 {
+                        others: has_other(row, core),
+                    },
                 }
             } else {
                 let alone = row.sharers.is_empty();
                 share_others(home, l1s, line, row);
-                bring_own(home, l1s, core, line, letter_after(false, !alone));
-                home.grant(line, core, alone);
-                Outcome::L2 {
-                    others: row.alone && has_other(row, core),
+                Coming {
+                    letter: letter_after(false, !alone),
+                    shares: Some(alone),
+                    outcome: Outcome::L2 {
+                        others: is_asked(row, core),
+                    },
                 }
             }
         }
         None => {
             let dirty_victim = bring_home(home, l1s, line);
-            bring_own(home, l1s, core, line, letter_after(write, false));
-            home.own(line, core);
-            Outcome::Miss { dirty_victim }
+            Coming {
+                letter: letter_after(write, false),
+                shares: None,
+                outcome: Outcome::Miss { dirty_victim },
+            }
         }
+    }
+}
+
+/// Whether another core has a line with this row alone, and is asked for it.
+#[inline(always)]
+fn is_asked(row: Row, core: u16) -> bool
+    requires { core < 256 }
+    ensures { result ≡ ((line_in row).alone && is_some_core (others_of core (line_in row))) }
+{
+    row.alone && has_other(row, core)
+}
+
+/// A core's L1 has a line of the L2 from now on: it alone, as is known, or else maybe so.
+#[inline(always)]
+fn take_part(home: &mut Home, line: u64, core: u16, shares: Option<bool>)
+    requires { core < 256 }
+    ensures { home.new ≡ taken_part line core shares home.old }
+{
+    match shares {
+        Some(alone) => home.grant(line, core, alone),
+        None => home.own(line, core),
     }
 }
 

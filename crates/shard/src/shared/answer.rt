@@ -1,7 +1,7 @@
 //! What an access reads of a line and writes to it.
 ghost use Rattle.std.specs.Prelude.{◌≡◌, ◌+◌, ◌<◌, ◌≤◌, ◌&&◌, IsSome, not, length, slice_index_or};
 ghost use Rattle.home.specs.HomeState.{is_marked_by_others};
-ghost use Rattle.l1_cache.specs.L1State.{answered_in, copy_at, no_l1, place_in_line, set_free_in, written_in};
+ghost use Rattle.l1_cache.specs.L1State.{answered_in, copy_at, letter_of, no_l1, number_of, place_in_line, set_free_in, written_in};
 ghost use Rattle.zs_num.specs.Request.{addr_of, line_at, line_bytes, line_of, width_of};
 ghost use Rattle.zs_num.specs.declared.request.Request.TheVariants.{Load, Store};
 ghost use Rattle.zs_num.specs.Servable.{IsAligned};
@@ -54,11 +54,8 @@ fn answer_load(home: &Home, l1s: &mut [L1], core: u16, addr: u64, width: u8) -> 
     ensures reply { result ≡ number_in (bytes_of (copy_at (slice_index_or l1s.old core no_l1) (line_at addr))) (place_in_line addr) width }
     ensures cores { length l1s.new ≡ length l1s.old }
 {
-    let line = addr / LINE;
-    let reply = read_at(l1s, core, addr, width);
-    let free = is_free_at(home, l1s, core, line);
-    set_free_at(l1s, core, line, free);
-    reply
+    let marked = home.is_marked_by_others(core, addr / LINE);
+    load_at(l1s, core, addr, width, marked)
 }
 
 /// Serves a store where the line stands.
@@ -71,48 +68,38 @@ fn answer_store(home: &mut Home, l1s: &mut [L1], core: u16, addr: u64, width: u8
     ensures cores { length l1s.new ≡ length l1s.old }
 {
     end_other_marks(home, core, addr);
-    let free = is_free_at(home, l1s, core, addr / LINE);
-    write_at(l1s, core, addr, width, value, free);
+    let marked = home.is_marked_by_others(core, addr / LINE);
+    store_at(l1s, core, addr, width, value, marked);
 }
 
-/// Writes to a line that a core has. It is free to write from now on, or not.
+/// Writes to a line that a core has. It is free to write from now on where the core alone has it,
+/// and unless others have marked it.
 #[inline(always)]
-fn write_at(l1s: &mut [L1], core: u16, addr: u64, width: u8, value: u64, free: bool)
+fn store_at(l1s: &mut [L1], core: u16, addr: u64, width: u8, value: u64, marked: bool)
     requires core { core < length l1s.old }
     requires there { IsSome (copy_at (slice_index_or l1s.old core no_l1) (line_at addr)) }
     requires few { width ≤ 8 }
     requires within { place_in_line addr + width ≤ line_bytes }
-    ensures after { bank_with no_home l1s.new ≡ with_l1 core (written_in addr width value free) (bank_with no_home l1s.old) }
+    ensures after { bank_with no_home l1s.new ≡ with_l1 core (λ l1. written_in addr width value (is_alone (letter_of (copy_at l1 (line_at addr))) && not marked) l1) (bank_with no_home l1s.old) }
     ensures cores { length l1s.new ≡ length l1s.old }
 {
-    l1s[usize::from(core)].write(addr, width, value, free);
+    l1s[usize::from(core)].store_shared(addr, width, value, marked);
 }
 
-/// Reads from the core's copy of a line.
+/// Reads from a line that a core has. It is free to write from now on where the core alone has it,
+/// and unless others have marked it.
 #[inline(always)]
-fn read_at(l1s: &[L1], core: u16, addr: u64, width: u8) -> u64
-    requires core { core < length l1s.now }
-    requires there { IsSome (copy_at (slice_index_or l1s.now core no_l1) (line_at addr)) }
+fn load_at(l1s: &mut [L1], core: u16, addr: u64, width: u8, marked: bool) -> u64
+    requires core { core < length l1s.old }
+    requires there { IsSome (copy_at (slice_index_or l1s.old core no_l1) (line_at addr)) }
     requires some { 1 ≤ width }
     requires few { width ≤ 8 }
     requires within { place_in_line addr + width ≤ line_bytes }
-    ensures { result ≡ number_in (bytes_of (copy_at (slice_index_or l1s.now core no_l1) (line_at addr))) (place_in_line addr) width }
-{
-    match l1s[usize::from(core)].bytes(addr / LINE) {
-        Some(bytes) => numbers::read(bytes, (addr % LINE) as usize, width),
-        None => 0,
-    }
-}
-
-/// A line that a core has keeps its bytes, and is free to write from now on, or not.
-#[inline(always)]
-fn set_free_at(l1s: &mut [L1], core: u16, line: u64, free: bool)
-    requires core { core < length l1s.old }
-    requires there { IsSome (copy_at (slice_index_or l1s.old core no_l1) line) }
-    ensures after { bank_with no_home l1s.new ≡ with_l1 core (set_free_in line free) (bank_with no_home l1s.old) }
+    ensures after { bank_with no_home l1s.new ≡ with_l1 core (λ l1. set_free_in (line_at addr) (is_alone (letter_of (copy_at l1 (line_at addr))) && not marked) l1) (bank_with no_home l1s.old) }
+    ensures reply { result ≡ number_of (copy_at (slice_index_or l1s.old core no_l1) (line_at addr)) (place_in_line addr) width }
     ensures cores { length l1s.new ≡ length l1s.old }
 {
-    l1s[usize::from(core)].set_free(line, free);
+    l1s[usize::from(core)].load_shared(addr, width, marked)
 }
 
 /// Serves an access in a copy of the line's bytes, which then stands for them.

@@ -1,7 +1,7 @@
 //! What a core's own L1 and the home do for its access.
 ghost use Rattle.std.specs.Prelude.{◌≡◌, ◌<◌, IfSome, IsSome, None, false, length, option_map, slice_index_or, slice_set};
 ghost use Rattle.home.specs.HomeState.{KeepsLine, bytes_at, with_bytes_at};
-ghost use Rattle.l1_cache.specs.L1State.{HasEntered, answered_in, copy_at, has_instructions, kept_with_in, no_l1, victim_in};
+ghost use Rattle.l1_cache.specs.L1State.{HasEntered, answered_in, copy_at, has_instructions, kept_with_in, may_write, no_l1, victim_in};
 ghost use Rattle.shard.specs.BankSteps.{bank_with, left_home, CanBring};
 ghost use Rattle.shard.specs.SharedStep.{brought_to_own, bytes_of, instruction_brought, with_l1};
 ghost use Rattle.shard.specs.Seen.{no_home};
@@ -29,6 +29,7 @@ fn enter_at(l1s: &mut [L1], core: u16, line: u64, letter: Letter) -> Option<(u64
     requires absent { copy_at (slice_index_or l1s.old core no_l1) line ≡ None }
     ensures victim { result ≡ option_map (λ victim. (victim.0, victim.1.letter)) (victim_in (slice_index_or l1s.old core no_l1) line) }
     ensures entered { HasEntered (slice_index_or l1s.old core no_l1) line letter (slice_index_or l1s.new core no_l1) }
+    ensures closed { may_write (copy_at (slice_index_or l1s.new core no_l1) line) ≡ false }
     ensures others { l1s.new ≡ slice_set l1s.old core (slice_index_or l1s.new core no_l1) }
     ensures cores { length l1s.new ≡ length l1s.old }
 {
@@ -68,16 +69,17 @@ fn write_back(home: &mut Home, l1: &L1, line: u64, evicted: u64)
     }
 }
 
-/// The bytes of a line come from its home into a core's L1, which has it.
+/// The bytes of a line come from its home into a core's L1, where it is and isn't free to write.
 #[inline(always)]
 fn fill_at(home: &Home, l1s: &mut [L1], core: u16, line: u64)
     requires core { core < length l1s.old }
     requires kept { KeepsLine home.now line }
     requires there { IsSome (copy_at (slice_index_or l1s.old core no_l1) line) }
+    requires closed { may_write (copy_at (slice_index_or l1s.old core no_l1) line) ≡ false }
     ensures after { bank_with home.now l1s.new ≡ with_l1 core (answered_in line (bytes_at home.now line) false) (bank_with home.now l1s.old) }
     ensures cores { length l1s.new ≡ length l1s.old }
 {
-    l1s[usize::from(core)].answer(line, home.line_bytes(line), false);
+    l1s[usize::from(core)].fill(line, home.line_bytes(line));
 }
 
 /// A line that a core's L1 has is used, with this letter from then on.

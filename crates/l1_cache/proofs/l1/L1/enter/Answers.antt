@@ -5,7 +5,7 @@ use Rattle.cache_set.specs.declared.letter.Letter.{Letter}
 use Rattle.l1_cache.specs.L1State.{Copy}
 use Rattle.l1_cache.specs.Layout.{l1_view, no_kept}
 use Rattle.l1_cache.proofs.Copies.{kept_read}
-use Rattle.l1_cache.proofs.Entered.{entered, its_bytes}
+use Rattle.l1_cache.proofs.Entered.{closed_there, entered, its_bytes}
 use Rattle.l1_cache.specs.declared.near.Kept.{Kept}
 use Rattle.l1_cache.proofs.Table.{near_as, tags_as}
 use Rattle.l1_cache.proofs.Views.{aged_after, evicts_none, evicts_this, filled_now, near_taken, next_small, stands_filled}
@@ -80,3 +80,18 @@ returns-clause-after c =
     (get_or-set_same w.kept.items p k no_kept (omega (arith, c.enter-entered.ensures.within, was.ways.kept_are)))
     (λ b. rw (sets, ways, put.ages_are, put.tags_are) (filled_now was line p age put.anew put.order put.long put.later put.next k b b refl))
     (its_bytes _ c.enter-entered.result.evicts _ _ _ is.live_was is.free_was (evicts_this was line p age put.anew put.order put.long put.later put.next) (evicts_none was line p age put.anew put.order put.long put.later put.next)))
+
+pub returns-clause-closed : goal.returns-clause-closed
+returns-clause-closed c =
+    let was = c.self.invariant in
+    let w = c.self.inside.ways in
+    let line = c.args.line in
+    let p = c.enter-entered.result.place in
+    let age = c.enter-entered.new.self.tick in
+    let put = c.enter-entered.ensures.entered.put in
+    let k : Kept = record { letter = c.args.letter; free = false } in
+    let sets = c.enter-entered.ensures.sets in
+    let ways = c.enter-entered.ensures.ways in
+    closed_there (invariant_of-self c) line p k
+    (rw (sets, ways, put.ages_are, put.tags_are) (stands_filled was line p age put.anew put.order put.long put.later put.next))
+    (get_or-set_same w.kept.items p k no_kept (omega (arith, c.enter-entered.ensures.within, was.ways.kept_are))) refl
