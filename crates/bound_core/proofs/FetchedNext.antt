@@ -21,9 +21,12 @@ executes image c there = rw there refl
 same_execution : (image : MemoryImage) (c : TimedCore) → c.pace ≡ None → after_execution image (taking c) ≡ after_execution image c
 same_execution image c none = plain_execution image (taking c) none ∙ sym (plain_execution image c none)
 
+-- it executes the same instruction as if no fetch were over
+pub taking_next : (image : MemoryImage) (c : TimedCore) → c.pace ≡ None → needs_fetch image c.core ≡ false → after_instruction image (taking c) ≡ after_instruction image c
+taking_next image c none there =
+    executes image (taking c) (needs_same image c.core ∙ there) ∙ (same_execution image c none ∙ sym (executes image c there))
+
 pub fetched_is_next : (image : MemoryImage) (end : ℕ) (c : TimedCore) → c.pace ≡ None → is_free c.core ≡ true → c.clock < end → needs_fetch image c.core ≡ false
     → ran_to image end (taking c) ≡ ran_to image end c
 fetched_is_next image end c none free early there =
-    let next : after_instruction image (taking c) ≡ after_instruction image c =
-    executes image (taking c) (needs_same image c.core ∙ there) ∙ (same_execution image c none ∙ sym (executes image c there)) in
-    sym (same_end image end (taking c) (goes_on_by end (taking c) free early)) ∙ (ap (ran_to image end) next ∙ same_end image end c (goes_on_by end c free early))
+    sym (same_end image end (taking c) (goes_on_by end (taking c) free early)) ∙ (ap (ran_to image end) (taking_next image c none there) ∙ same_end image end c (goes_on_by end c free early))

@@ -1,6 +1,6 @@
 -- Turns whose accesses are hits that a port serves at once, with the instructions between them.
-use Rattle.std.proofs.Common.{◌≡◌, inl, inr, ℕ, zero, suc, ◌+◌, ◌<◌, ◌≤◌, if◌then◌else◌, Bool, true, false, not, true≢false, List, [], ◌∷◌, ◌++◌, length, Option, Some, None, refl, sym, ◌∙◌, ap, subst, arith}
-use Rattle.std.specs.Prelude.{is_none, is_some, IsSome}
+use Rattle.std.proofs.Common.{◌≡◌, ◌⊎◌, inl, inr, ℕ, zero, suc, ◌+◌, ◌<◌, ◌≤◌, if◌then◌else◌, Bool, true, false, not, true≢false, List, [], ◌∷◌, ◌++◌, append_assoc, length, All, Option, Some, None, refl, sym, ◌∙◌, ap, subst, arith}
+use Rattle.std.specs.Prelude.{is_none, is_some, IfSome, IsSome}
 use Rattle.std.proofs.lemmas.Bool.{and_parts, cases_lt, eq-eqb}
 use Rattle.std.proofs.lemmas.List.{append-nil, length-append}
 use Rattle.zs_num.specs.Request.{is_fetch, line_at}
@@ -9,6 +9,8 @@ use Rattle.zs_num.specs.declared.entry.Outcome.TheVariants.{Hit}
 use Rattle.zs_num.specs.declared.request.Request.{Request}
 use Rattle.zs_num.specs.declared.request.Request.TheVariants as request
 use Rattle.elf_load.specs.MemoryImage.{MemoryImage}
+use Rattle.pipe_core.specs.Pace.{PaceState}
+use Rattle.pipe_core.specs.PaceLaws.{GoesOnFrom}
 use Rattle.rv_core.specs.declared.memory_range.MemoryRange.{MemoryRange}
 use Rattle.rv_core.specs.declared.single.Single.{Single}
 use Rattle.rv_core.specs.declared.single.Single.TheVariants.{Load, Store}
@@ -20,19 +22,26 @@ use Rattle.rv_core.specs.Executions.{LiesIn}
 use Rattle.rv_core.specs.Hits.{line_of, moment_of, GoesOn, HasGoneOn, IsOnItsWay, MakesFetch, MakesHit, Moment, RunsOn}
 use Rattle.rv_core.specs.Single.{access_of, begun}
 use Rattle.rv_core.specs.Step.{answered, executed, is_free, needs_fetch}
+use Rattle.rv_core.specs.Told.{going_told, making_told, running_told, HasToldGoing, Made, Ran, Told}
 use Rattle.rv_core.proofs.Fetches.{latest-needs, never-needs}
 use Rattle.reference.specs.Ahead.{ahead}
 use Rattle.reference.specs.IntervalBounds.{latest_clock, most_accesses, most_left}
 use Rattle.bound_core.specs.Met.{begun_in_time}
+use Rattle.bound_core.specs.NumberedCores.{NumberedCore}
+use Rattle.bound_core.specs.Stints.{IsStint}
 use Rattle.bound_core.specs.Taken.{Settles, TakesOne, TakesThese}
+use Rattle.bound_core.specs.ToldTurns.{told_alone, TellsTurns}
 use Rattle.reference.specs.TimedCore.{TimedCore, after_instruction, core_after_access, ran_to}
 use Rattle.reference.specs.Turn.{TakesTurn}
 use Rattle.reference.proofs.Accesses.{end_within, most_before, most_past, to_execute_small, unfetched_left}
 use Rattle.bound_core.proofs.FetchedNext.{fetched_is_next, taking}
 use Rattle.reference.proofs.Instructions.{asking, asking_held, goes_on_by, held_stops, ran_stays, same_end}
+use Rattle.reference.proofs.Lists.{all_and_one, all_none}
 use Rattle.bound_core.proofs.LedOn.{counted, led_on, none_ahead, one_on, IsThere}
 use Rattle.bound_core.proofs.Meeting.{access_made, begun_stops}
 use Rattle.bound_core.proofs.TheseTurns.{settles_itself, these_more, these_on}
+use Rattle.bound_core.proofs.ToldAlone.{counted_told, led_told, none_told, taking_told, uncounted_told}
+use Rattle.bound_core.proofs.ToldTurns.{tells_more, tells_on, tells_same}
 use Rattle.bound_core.proofs.Turns.{took}
 
 -- ---- where the core stands
@@ -129,13 +138,30 @@ idle_latest end before after left in_time = latest_kept end before after (omega 
 
 -- ---- an instruction of one access
 
-begins : (image : MemoryImage) (end : ℕ) (c : TimedCore) (single : Single) → c.pace ≡ None → needs_fetch image c.core ≡ false → is_free c.core ≡ true → c.core.is_fetched ≡ false
-    → executed image c.core ≡ begun single c.core → c.clock < end → begun_in_time (Some single) (ahead 1 c) ≡ ran_to image end c
-begins image end c single none there free fetched meets early =
+-- a core before an instruction that begins this access, without a pipeline
+record Begins (image : MemoryImage) (end : ℕ) (c : TimedCore) (single : Single) : Type 0 where
+  none : c.pace ≡ None
+  there : needs_fetch image c.core ≡ false
+  free : is_free c.core ≡ true
+  fetched : c.core.is_fetched ≡ false
+  meets : executed image c.core ≡ begun single c.core
+  early : c.clock < end
+
+begins_next : (image : MemoryImage) (end : ℕ) (c : TimedCore) (single : Single) → Begins image end c single → after_instruction image c ≡ begun_in_time (Some single) (ahead 1 c)
+begins_next image end c single b =
+    ap (after_instruction image) (sym (none_ahead c)) ∙ one_on image c (begun single c.core) 0 b.none b.there b.fetched b.meets (counted c.core b.free)
+
+begins : (image : MemoryImage) (end : ℕ) (c : TimedCore) (single : Single) → Begins image end c single → begun_in_time (Some single) (ahead 1 c) ≡ ran_to image end c
+begins image end c single b =
     let ran : TimedCore = begun_in_time (Some single) (ahead 1 c) in
-    let step : after_instruction image c ≡ ran =
-    ap (after_instruction image) (sym (none_ahead c)) ∙ one_on image c (begun single c.core) 0 none there fetched meets (counted c.core free) in
-    sym (ran_stays image end ran (begun_stops end single (ahead 1 c))) ∙ ap (ran_to image end) (sym step) ∙ same_end image end c (goes_on_by end c free early)
+    sym (ran_stays image end ran (begun_stops end single (ahead 1 c))) ∙ ap (ran_to image end) (sym (begins_next image end c single b)) ∙ same_end image end c (goes_on_by end c b.free b.early)
+
+-- that instruction is all that is told of the turn
+begins_told : (image : MemoryImage) (end : ℕ) (c : TimedCore) (single : Single) → Begins image end c single → told_alone image end c ≡ Ran c.core.pc ∷ []
+begins_told image end c single b =
+    let ran : TimedCore = begun_in_time (Some single) (ahead 1 c) in
+    counted_told image end c ran (goes_on_by end c b.free b.early) (begins_next image end c single b) refl
+    ∙ ap (λ (told : List Told). Ran c.core.pc ∷ told) (none_told image end ran (begun_stops end single (ahead 1 c)))
 
 of_no_fetch : (single : Single) → is_fetch (access_of single) ≡ false
 of_no_fetch (Load addr destination) = refl
@@ -151,6 +177,11 @@ fetch_begins : (image : MemoryImage) (end : ℕ) (c : TimedCore) → needs_fetch
 fetch_begins image end c needs free early =
     sym (ran_stays image end (asking c) (held_stops end (asking c) (asking_held c.core))) ∙ ap (ran_to image end) (sym (asks_now image c needs)) ∙ same_end image end c (goes_on_by end c free early)
 
+-- nothing is told of the turn, since no instruction is executed
+fetch_told : (image : MemoryImage) (end : ℕ) (c : TimedCore) → needs_fetch image c.core ≡ true → is_free c.core ≡ true → c.clock < end → told_alone image end c ≡ []
+fetch_told image end c needs free early =
+    uncounted_told image end c (asking c) (goes_on_by end c free early) (asks_now image c needs) refl ∙ none_told image end (asking c) (held_stops end (asking c) (asking_held c.core))
+
 -- the core that has fetched its instruction, and executes it next
 abbrev has_fetched_in : (time : ℕ) → TimedCore → TimedCore
 has_fetched_in time c = record c {
@@ -162,21 +193,32 @@ fetch_made : (time : Entry → ℕ) (e : Entry) (c : TimedCore) → core_after_a
 unfolding core_after_access answered ended
 fetch_made time e c = ap (λ console. record (has_fetched_in (time e) c) { console = console }) (append-nil c.console)
 
+still_free : (time : ℕ) (c : TimedCore) → is_free c.core ≡ true → is_free (has_fetched_in time c).core ≡ true
+still_free time c free = let halted : is_none c.core.halted ≡ true = (and_parts (is_none c.core.halted) (is_none c.core.instruction) free).0 in rw halted refl
+
+fetched_there : (image : MemoryImage) (time : ℕ) (c : TimedCore) → needs_fetch image (has_fetched_in time c).core ≡ false
+fetched_there image time c = latest-needs image (has_fetched_in time c).core (eq-eqb (line_at c.core.pc) (line_at c.core.pc) refl)
+
 -- before the end that is but the next instruction
 fetched_goes_on : (image : MemoryImage) (end time : ℕ) (c : TimedCore) → c.pace ≡ None → is_free c.core ≡ true → c.clock + time < end
     → ran_to image end (taking (has_fetched_in time c)) ≡ ran_to image end (has_fetched_in time c)
-fetched_goes_on image end time c none free early =
-    let fetched : TimedCore = has_fetched_in time c in
-    let halted : is_none c.core.halted ≡ true = (and_parts (is_none c.core.halted) (is_none c.core.instruction) free).0 in
-    let still : is_free fetched.core ≡ true = rw halted refl in
-    fetched_is_next image end fetched none still early (latest-needs image fetched.core (eq-eqb (line_at c.core.pc) (line_at c.core.pc) refl))
+fetched_goes_on image end time c none free early = fetched_is_next image end (has_fetched_in time c) none (still_free time c free) early (fetched_there image time c)
+
+fetched_told : (image : MemoryImage) (end time : ℕ) (c : TimedCore) → c.pace ≡ None → is_free c.core ≡ true → c.clock + time < end
+    → told_alone image end (taking (has_fetched_in time c)) ≡ told_alone image end (has_fetched_in time c)
+fetched_told image end time c none free early = taking_told image end (has_fetched_in time c) none (still_free time c free) early (fetched_there image time c)
 
 -- ---- all the way
 
--- where a core came to that has gone on by itself, with so many accesses, from the turns' first port to the last
+-- where a core came to that has gone on by itself, with so many accesses, from the turns' first port to the last, and what
+-- is told of it
 pub record HasCome {Port : Type 0} (time : Entry → ℕ) (image : MemoryImage) (end : ℕ) (gives : Port → (start : ℕ) → Request → Entry → Port → Type 0)
-    (logged_of : Port → Option (List Entry)) (number made count : ℕ) (first last : Port) (before after : TimedCore) : Type 0 where
-  pub these : (entries : List Entry) × ((length entries ≡ made) × TakesThese time image end gives logged_of number entries first last before after)
+    (logged_of : Port → Option (List Entry)) (number made count : ℕ) (told : List Told) (first last : Port) (before after : TimedCore) : Type 0 where
+  pub entries : List Entry
+  pub many : length entries ≡ made
+  pub these : TakesThese time image end gives logged_of number entries first last before after
+  pub tells : TellsTurns time image end told entries before after
+  pub hits : All (λ e. e.outcome ≡ Hit) entries
   pub later : before.clock + count ≤ after.clock
   pub in_time : after.clock ≤ end
   pub latest : latest_clock end after ≤ latest_clock end before
@@ -188,9 +230,13 @@ module _ {Port : Type 0} (time : Entry → ℕ) (image : MemoryImage) (memory : 
     (hit_time : (e : Entry) → e.outcome ≡ Hit → is_fetch e.request ≡ false → time e ≡ stint.hit)
     (fetch_time : (e : Entry) → e.outcome ≡ Hit → is_fetch e.request ≡ true → time e ≡ stint.fetch_hit)
     (takes_time : (e : Entry) → 1 ≤ time e) where
-  -- the core has come to a moment by so many accesses
-  pub record Comes (accesses : ℕ) (m : Moment Port) : Type 0 where
-    pub these : (entries : List Entry) × ((length entries ≡ accesses) × TakesThese time image stint.end gives logged_of number entries first m.port c (stands c m))
+  -- the core has come to a moment by so many accesses, and this is told of it
+  pub record Comes (accesses : ℕ) (m : Moment Port) (told : List Told) : Type 0 where
+    pub entries : List Entry
+    pub many : length entries ≡ accesses
+    pub these : TakesThese time image stint.end gives logged_of number entries first m.port c (stands c m)
+    pub tells : TellsTurns time image stint.end told entries c (stands c m)
+    pub hits : All (λ e. e.outcome ≡ Hit) entries
     pub in_time : m.clock ≤ stint.end
     pub later : c.clock + m.count ≤ m.clock
     pub lined : IsLined c.core.fetching m.line
@@ -208,8 +254,9 @@ module _ {Port : Type 0} (time : Entry → ℕ) (image : MemoryImage) (memory : 
   one_longer : (n : ℕ) (entries : List Entry) (e : Entry) → length entries ≡ n → length (entries ++ e ∷ []) ≡ suc n
   one_longer n entries e many = let longer : length (entries ++ e ∷ []) ≡ length entries + 1 = length-append entries (e ∷ []) in omega (arith, longer, many)
 
-  comes_on : (n : ℕ) (before after : Moment Port) → RunsOn image memory stint gives core_of logged_of before after → Comes n before → Comes n after
-  comes_on n before after r here =
+  comes_on : (n : ℕ) (before after : Moment Port) (told : List Told) (r : RunsOn image memory stint gives core_of logged_of before after) → Comes n before told
+      → Comes n after (told ++ running_told image memory stint gives core_of logged_of before after r)
+  comes_on n before after told r here =
       let now : TimedCore = stands c before in
       let next : TimedCore = stands c after in
       let At : Option ℕ → ℕ → ℕ → TimedCore = λ line clock instructions. record c {
@@ -223,8 +270,12 @@ module _ {Port : Type 0} (time : Entry → ℕ) (image : MemoryImage) (memory : 
       ∙ ap (λ k. At before.line k (c.instructions + after.count)) r.clock
       ∙ ap (λ i. At before.line (before.clock + r.instructions) i) count in
       let room : before.clock + r.instructions ≤ stint.end = omega (arith, r.clock, r.in_time) in
-      let same : ran_to image stint.end next ≡ ran_to image stint.end now = ap (ran_to image stint.end) is
-      ∙ led_on image stint.end before.line now none (there_by image c.core before.line c.core.fetching refl here.lined) free unfetched r.instructions after.registers after.pc room r.leads in
+      let there : IsThere image now.core before.line = there_by image c.core before.line c.core.fetching refl here.lined in
+      let same : ran_to image stint.end next ≡ ran_to image stint.end now =
+      ap (ran_to image stint.end) is ∙ led_on image stint.end before.line now none there free unfetched r.instructions after.registers after.pc room r.leads in
+      let more : List Told = running_told image memory stint gives core_of logged_of before after r in
+      let tells : more ++ told_alone image stint.end next ≡ told_alone image stint.end now =
+      ap (λ (t : TimedCore). more ++ told_alone image stint.end t) is ∙ led_told image stint.end before.line now none there free unfetched r.instructions after.registers after.pc room r.leads in
       let settles : Settles time image stint.end gives now next = record {
         ran = same;
         begun = omega (arith, r.clock);
@@ -233,18 +284,22 @@ module _ {Port : Type 0} (time : Entry → ℕ) (image : MemoryImage) (memory : 
         memory = refl;
         fetching = refl;
       } in
-      let (entries, (many, these)) = here.these in
-      let on = these_on time image stint.end gives logged_of number entries first before.port c now next these settles in
+      let on = these_on time image stint.end gives logged_of number here.entries first before.port c now next here.these settles in
       record {
-        these = (entries, (many, subst (λ (port : Port). TakesThese time image stint.end gives logged_of number entries first port c next) (sym r.port) on));
+        entries = here.entries;
+        many = here.many;
+        these = subst (λ (port : Port). TakesThese time image stint.end gives logged_of number here.entries first port c next) (sym r.port) on;
+        tells = tells_on time image stint.end told more here.entries c now next here.tells tells;
+        hits = here.hits;
         in_time = r.in_time;
         later = omega (arith, here.later, r.clock, r.count);
         lined = subst (IsLined c.core.fetching) (sym r.line) here.lined;
         core = ap core_of r.port ∙ here.core;
       }
 
-  comes_by_hit : (n : ℕ) (before after : Moment Port) → MakesHit image memory stint gives core_of logged_of before after → Comes n before → Comes (suc n) after
-  comes_by_hit n before after h here =
+  comes_by_hit : (n : ℕ) (before after : Moment Port) (told : List Told) → MakesHit image memory stint gives core_of logged_of before after → Comes n before told
+      → Comes (suc n) after (told ++ Ran before.pc ∷ Made before.pc ∷ [])
+  comes_by_hit n before after told h here =
       let now : TimedCore = stands c before in
       let next : TimedCore = stands c after in
       let single : Single = h.access.single in
@@ -252,7 +307,15 @@ module _ {Port : Type 0} (time : Entry → ℕ) (image : MemoryImage) (memory : 
       let e : Entry = served.entry in
       let early : before.clock < stint.end = omega (arith, h.clock, h.in_time) in
       let ran : TimedCore = begun_in_time (Some single) (ahead 1 now) in
-      let ran_is : ran ≡ ran_to image stint.end now = begins image stint.end now single none (there before here.lined h.lies) free unfetched (h.access.meets now.core inside) early in
+      let now_begins : Begins image stint.end now single = record {
+        none = none;
+        there = there before here.lined h.lies;
+        free = free;
+        fetched = unfetched;
+        meets = h.access.meets now.core inside;
+        early = early;
+      } in
+      let ran_is : ran ≡ ran_to image stint.end now = begins image stint.end now single now_begins in
       let request_is : is_fetch e.request ≡ false = ap is_fetch served.asked ∙ of_no_fetch single in
       let takes : time e ≡ stint.hit = hit_time e served.hit request_is in
       let answers : answered e.reply (begun single now.core) ≡ record now.core { registers = after.registers; pc = after.pc } =
@@ -280,9 +343,13 @@ module _ {Port : Type 0} (time : Entry → ℕ) (image : MemoryImage) (memory : 
         fetching = refl;
         logged = served.logged;
       } in
-      let (entries, (many, these)) = here.these in
       record {
-        these = (entries ++ e ∷ [], (one_longer n entries e many, these_more time image stint.end gives logged_of number entries e first before.port after.port c now next these one));
+        entries = here.entries ++ e ∷ [];
+        many = one_longer n here.entries e here.many;
+        these = these_more time image stint.end gives logged_of number here.entries e first before.port after.port c now next here.these one;
+        tells = (tells_more time image stint.end gives logged_of number told (Ran before.pc ∷ []) here.entries e first before.port c now ran next
+            here.these here.tells (begins_told image stint.end now single now_begins) ran_is left);
+        hits = all_and_one (λ e. e.outcome ≡ Hit) here.entries e here.hits served.hit;
         in_time = h.in_time;
         later = omega (arith, here.later, h.clock, h.count);
         lined = subst (IsLined c.core.fetching) (sym h.line) here.lined;
@@ -293,8 +360,9 @@ module _ {Port : Type 0} (time : Entry → ℕ) (image : MemoryImage) (memory : 
   fetches_by true line latest lined had = refl
   fetches_by false line latest lined had = let no : line ≡ None = lined.none refl in cc
 
-  comes_by_fetch : (n : ℕ) (before after : Moment Port) → MakesFetch image memory stint gives core_of logged_of before after → Comes n before → Comes (suc n) after
-  comes_by_fetch n before after h here =
+  comes_by_fetch : (n : ℕ) (before after : Moment Port) (told : List Told) → MakesFetch image memory stint gives core_of logged_of before after → Comes n before told
+      → Comes (suc n) after (told ++ Made before.pc ∷ [])
+  comes_by_fetch n before after told h here =
       let now : TimedCore = stands c before in
       let next : TimedCore = stands c after in
       let fetching : c.core.fetching ≡ true = fetches_by c.core.fetching before.line h.latest here.lined h.had in
@@ -309,8 +377,9 @@ module _ {Port : Type 0} (time : Entry → ℕ) (image : MemoryImage) (memory : 
       let some : 1 ≤ time e = takes_time e in
       let behind : TimedCore = has_fetched_in (time e) now in
       let clock : after.clock ≡ before.clock + time e = omega (arith, h.clock, takes) in
+      let left : behind ≡ core_after_access time e ran = sym (fetch_made time e now) in
       let turn : TakesTurn time image stint.end gives before.port after.port now behind e =
-      took time image stint.end gives before.port after.port now ran behind (request.Fetch before.pc) e ran_is refl served.given (sym (fetch_made time e now)) in
+      took time image stint.end gives before.port after.port now ran behind (request.Fetch before.pc) e ran_is refl served.given left in
       let in_time : before.clock + time e < stint.end = omega (arith, clock, h.in_time) in
       let fewer : most_accesses stint.end behind < most_accesses stint.end now = omega (arith, most_before stint.end behind in_time, most_before stint.end now early, some) in
       let fetched_left : most_left behind.core ≡ 256 = refl in
@@ -325,8 +394,10 @@ module _ {Port : Type 0} (time : Entry → ℕ) (image : MemoryImage) (memory : 
         fetching = refl;
         logged = served.logged;
       } in
-      let (entries, (many, these)) = here.these in
-      let taken = these_more time image stint.end gives logged_of number entries e first before.port after.port c now behind these one in
+      let entries : List Entry = here.entries ++ e ∷ [] in
+      let taken = these_more time image stint.end gives logged_of number here.entries e first before.port after.port c now behind here.these one in
+      let tells : TellsTurns time image stint.end (told ++ Made before.pc ∷ []) entries c behind =
+      tells_more time image stint.end gives logged_of number told [] here.entries e first before.port c now ran behind here.these here.tells (fetch_told image stint.end now needs free early) ran_is left in
       let At : List ℕ → ℕ → Option ℕ → Option InProgress → Bool → ℕ → ℕ → TimedCore = λ registers pc line instruction fetched clock count. record c {
         core = record c.core { registers = registers; pc = pc; fetched_line = line; instruction = instruction; is_fetched = fetched };
         clock = clock;
@@ -342,6 +413,8 @@ module _ {Port : Type 0} (time : Entry → ℕ) (image : MemoryImage) (memory : 
       ∙ ap (λ k. At before.registers before.pc (Some (line_at before.pc)) None false k after.count) clock
       ∙ ap (λ i. At before.registers before.pc (Some (line_at before.pc)) None false (before.clock + time e) i) h.count in
       let same : ran_to image stint.end next ≡ ran_to image stint.end behind = ap (ran_to image stint.end) is ∙ fetched_goes_on image stint.end (time e) now none free in_time in
+      let left_to_tell : told_alone image stint.end next ≡ told_alone image stint.end behind =
+      ap (told_alone image stint.end) is ∙ fetched_told image stint.end (time e) now none free in_time in
       let settles : Settles time image stint.end gives behind next = record {
         ran = same;
         begun = omega (arith, clock);
@@ -351,59 +424,98 @@ module _ {Port : Type 0} (time : Entry → ℕ) (image : MemoryImage) (memory : 
         fetching = refl;
       } in
       record {
-        these = (entries ++ e ∷ [], (one_longer n entries e many, these_on time image stint.end gives logged_of number (entries ++ e ∷ []) first after.port c behind next taken settles));
+        entries = entries;
+        many = one_longer n here.entries e here.many;
+        these = these_on time image stint.end gives logged_of number entries first after.port c behind next taken settles;
+        tells = tells_same time image stint.end (told ++ Made before.pc ∷ []) entries c behind next tells left_to_tell;
+        hits = all_and_one (λ e. e.outcome ≡ Hit) here.entries e here.hits served.hit;
         in_time = omega (arith, h.in_time);
         later = omega (arith, here.later, h.clock, h.count);
         lined = record { some = λ yes. ap is_some h.line; none = λ no. absurd (true≢false (sym fetching ∙ no)) };
         core = served.same ∙ here.core;
       }
 
-  pub comes : (n : ℕ) (before after : Moment Port) → GoesOn image memory stint gives core_of logged_of n before after → Comes 0 before → Comes n after
-  comes zero before after runs here = comes_on 0 before after runs here
-  comes (suc n) before after (s, (t, (path, (step, runs)))) here =
-      let there : Comes n s = comes n before s path here in
-      comes_on (suc n) t after runs (elim step [
-        | inl hit ↦ comes_by_hit n s t hit there
-        | inr fetch ↦ comes_by_fetch n s t fetch there
-      ])
+  comes_by : (n : ℕ) (before after : Moment Port) (told : List Told) (made : MakesHit image memory stint gives core_of logged_of before after ⊎ MakesFetch image memory stint gives core_of logged_of before after)
+      → Comes n before told → Comes (suc n) after (told ++ making_told image memory stint gives core_of logged_of before after made)
+  comes_by n before after told (inl hit) here = comes_by_hit n before after told hit here
+  comes_by n before after told (inr fetch) here = comes_by_fetch n before after told fetch here
 
-  comes_first : IsLined c.core.fetching (line_of c.core) → core_of first ≡ number → c.clock ≤ stint.end
-      → Comes 0 (record { registers = c.core.registers; pc = c.core.pc; line = line_of c.core; clock = c.clock; count = 0; port = first })
+  comes : (n : ℕ) (before after : Moment Port) (path : GoesOn image memory stint gives core_of logged_of n before after) → Comes 0 before []
+      → Comes n after (going_told image memory stint gives core_of logged_of n before after path)
+  comes zero before after runs here = comes_on 0 before after [] runs here
+  comes (suc n) before after (s, (t, (path, (made, runs)))) here =
+      let told : List Told = going_told image memory stint gives core_of logged_of n before s path in
+      let access : List Told = making_told image memory stint gives core_of logged_of s t made in
+      let there : Comes (suc n) t (told ++ access) = comes_by n s t told made (comes n before s path here) in
+      subst (Comes (suc n) after) (append_assoc told access (running_told image memory stint gives core_of logged_of t after runs)) (comes_on (suc n) t after (told ++ access) runs there)
+
+  comes_first : IsLined c.core.fetching (line_of c.core) → core_of first ≡ number → c.clock ≤ stint.end → Comes 0 (moment_of c.core c.clock 0 first) []
   comes_first lined core in_time =
+      let m : Moment Port = moment_of c.core c.clock 0 first in
+      let is : c ≡ stands c m = sym (stands_first c) in
       record {
-        these = ([], (refl, (refl, subst (Settles time image stint.end gives c) (sym (stands_first c)) (settles_itself time image stint.end gives c))));
+        entries = [];
+        many = refl;
+        these = (refl, subst (Settles time image stint.end gives c) is (settles_itself time image stint.end gives c));
+        tells = ap (told_alone image stint.end) (sym is);
+        hits = all_none (λ e. e.outcome ≡ Hit);
         in_time = in_time;
         later = omega arith;
         lined = lined;
         core = core;
       }
 
-  pub has_come : (room_of : Port → ℕ) (made : ℕ) (after : CoreState) (clock count : ℕ) (last : Port) → IsOnItsWay c.core after → (c.core.fetching ≡ true → IsSome c.core.fetched_line)
+  pub has_come : (room_of : Port → ℕ) (made : ℕ) (told : List Told) (after : CoreState) (clock count : ℕ) (last : Port) → IsOnItsWay c.core after → (c.core.fetching ≡ true → IsSome c.core.fetched_line)
       → core_of first ≡ number → c.clock ≤ stint.end
-      → HasGoneOn image memory stint gives core_of logged_of room_of made (moment_of c.core c.clock 0 first) (moment_of after clock count last)
-      → HasCome time image stint.end gives logged_of number made count first last c (record c { core = after; clock = clock; instructions = c.instructions + count })
-  has_come room_of made after clock count last way fetched core in_time gone =
+      → HasToldGoing image memory stint gives core_of logged_of room_of made (moment_of c.core c.clock 0 first) (moment_of after clock count last) told
+      → HasCome time image stint.end gives logged_of number made count told first last c (record c { core = after; clock = clock; instructions = c.instructions + count })
+  has_come room_of made told after clock count last way fetched core in_time going =
       let next : TimedCore = record c { core = after; clock = clock; instructions = c.instructions + count } in
       let m : Moment Port = moment_of after clock count last in
-      let came = comes made (moment_of c.core c.clock 0 first) m gone.path (comes_first (first_lined c.core.fetching c.core.fetched_line fetched) core in_time) in
+      let came = comes made (moment_of c.core c.clock 0 first) m going.gone.path (comes_first (first_lined c.core.fetching c.core.fetched_line fetched) core in_time) in
       let fetching : after.fetching ≡ c.core.fetching = ap (λ (core : CoreState). core.fetching) way in
       let At : Option ℕ → CoreState = λ line. record c.core { registers = after.registers; pc = after.pc; fetched_line = line } in
       let is : stands c m ≡ next =
       ap (λ core. record c { core = core; clock = clock; instructions = c.instructions + count }) (ap At (line_same c.core.fetching after.fetching after.fetched_line c.core.fetched_line fetching) ∙ sym way) in
-      let (entries, (many, these)) = came.these in
+      let tells : TellsTurns time image stint.end told came.entries c (stands c m) =
+      subst (λ (l : List Told). TellsTurns time image stint.end l came.entries c (stands c m)) (sym going.is) came.tells in
       record {
-        these = (entries, (many, subst (TakesThese time image stint.end gives logged_of number entries first last c) is these));
+        entries = came.entries;
+        many = came.many;
+        these = subst (TakesThese time image stint.end gives logged_of number came.entries first last c) is came.these;
+        tells = subst (TellsTurns time image stint.end told came.entries c) is tells;
+        hits = came.hits;
         later = came.later;
         in_time = came.in_time;
         latest = subst (λ t. latest_clock stint.end t ≤ latest_clock stint.end c) is (idle_latest stint.end c (stands c m) (idle_left c.core idle) came.in_time);
       }
 
--- the same, by what the code knows
-pub came_on : {Port : Type 0} {image : MemoryImage} {stint : Stint} {gives : Port → (start : ℕ) → Request → Entry → Port → Type 0} {core_of : Port → ℕ} {logged_of : Port → Option (List Entry)} {room_of : Port → ℕ} {made : ℕ}
-    (time : Entry → ℕ) (number : ℕ) (first last : Port) (c : TimedCore) (after : CoreState) (clock count : ℕ)
-    → is_none c.pace ≡ true → is_idle c.core ≡ true → (c.core.fetching ≡ true → IsSome c.core.fetched_line) → core_of first ≡ number → c.clock < stint.end
-    → ((e : Entry) → e.outcome ≡ Hit → is_fetch e.request ≡ false → time e ≡ stint.hit) → ((e : Entry) → e.outcome ≡ Hit → is_fetch e.request ≡ true → time e ≡ stint.fetch_hit) → ((e : Entry) → 1 ≤ time e)
-    → IsOnItsWay c.core after → HasGoneOn image c.core.memory stint gives core_of logged_of room_of made (moment_of c.core c.clock 0 first) (moment_of after clock count last)
-    → HasCome time image stint.end gives logged_of number made count first last c (record c { core = after; clock = clock; instructions = c.instructions + count })
-came_on {image = image} {stint = stint} {gives = gives} {core_of = core_of} {logged_of = logged_of} {room_of = room_of} {made = made} time number first last c after clock count none idle fetched core early hit_time fetch_time takes_time way gone =
-    has_come time image c.core.memory stint gives core_of logged_of number first c (none_of c.pace none) idle refl hit_time fetch_time takes_time room_of made after clock count last way fetched core (omega (arith, early)) gone
+-- ---- by what the code knows
+
+-- one without a pipeline has no pace that must go on
+pub none_soon : (pace : Option PaceState) (clock : ℕ) → pace ≡ None → IfSome pace (GoesOnFrom clock)
+none_soon None clock none = tt
+none_soon (Some pace) clock none = cc
+
+-- A core went on by itself from `now`, which is how the code keeps `before`. It has come there, and this is told of it.
+pub told_on : {Port : Type 0} {image : MemoryImage} {stint : Stint} {gives : Port → (start : ℕ) → Request → Entry → Port → Type 0} {core_of : Port → ℕ} {logged_of : Port → Option (List Entry)} {room_of : Port → ℕ} {made end : ℕ} {told : List Told}
+    {now before : NumberedCore} (time : Entry → ℕ) (first last : Port) (after : CoreState) (clock count : ℕ) → now ≡ before → IsStint time end before.timed stint → core_of first ≡ before.number → IsOnItsWay now.timed.core after
+    → HasToldGoing image now.timed.core.memory stint gives core_of logged_of room_of made (moment_of now.timed.core stint.clock 0 first) (moment_of after clock count last) told
+    → HasCome time image end gives logged_of before.number made count told first last before.timed (record now.timed { core = after; clock = clock; instructions = now.timed.instructions + count })
+told_on {image = image} {stint = stint} {gives = gives} {core_of = core_of} {logged_of = logged_of} {room_of = room_of} {made = made} {end = end} {told = told} {now = now} {before = before} time first last after clock count is may_before core way going =
+    let c : TimedCore = now.timed in
+    let may : IsStint time end c stint = subst (λ (n : NumberedCore). IsStint time end n.timed stint) (sym is) may_before in
+    let within : Stint = record stint { clock = c.clock; end = end } in
+    let next : TimedCore = record c { core = after; clock = clock; instructions = c.instructions + count } in
+    subst (λ (n : NumberedCore). HasCome time image end gives logged_of before.number made count told first last n.timed next) is
+    (has_come time image c.core.memory within gives core_of logged_of before.number first c may.none may.idle refl may.hit may.fetch_hit may.takes_time room_of made told after clock count last way may.fetched core (omega (arith, may.early))
+    (subst (λ (s : Stint). HasToldGoing image c.core.memory s gives core_of logged_of room_of made (moment_of c.core s.clock 0 first) (moment_of after clock count last) told) may.within going))
+
+-- the same, whatever is told
+pub came_on : {Port : Type 0} {image : MemoryImage} {stint : Stint} {gives : Port → (start : ℕ) → Request → Entry → Port → Type 0} {core_of : Port → ℕ} {logged_of : Port → Option (List Entry)} {room_of : Port → ℕ} {made end : ℕ}
+    {now before : NumberedCore} (time : Entry → ℕ) (first last : Port) (after : CoreState) (clock count : ℕ) → now ≡ before → IsStint time end before.timed stint → core_of first ≡ before.number → IsOnItsWay now.timed.core after
+    → HasGoneOn image now.timed.core.memory stint gives core_of logged_of room_of made (moment_of now.timed.core stint.clock 0 first) (moment_of after clock count last)
+    → (told : List Told) × HasCome time image end gives logged_of before.number made count told first last before.timed (record now.timed { core = after; clock = clock; instructions = now.timed.instructions + count })
+came_on {image = image} {stint = stint} {gives = gives} {core_of = core_of} {logged_of = logged_of} {made = made} {now = now} time first last after clock count is may core way gone =
+    let told : List Told = going_told image now.timed.core.memory stint gives core_of logged_of made (moment_of now.timed.core stint.clock 0 first) (moment_of after clock count last) gone.path in
+    (told, told_on {told = told} time first last after clock count is may core way (record { gone = gone; is = refl }))

@@ -53,15 +53,19 @@ one_on image c next n none there fetched leads costs =
 abbrev pub IsThere : MemoryImage → CoreState → Option ℕ → Type 0
 IsThere image core line = (registers : List ℕ) (pc : ℕ) → LiesIn line pc → needs_fetch image (at core registers pc) ≡ false
 
+-- none ahead, at its own registers and address, it is the core itself
+pub at_itself : (c : TimedCore) (registers : List ℕ) (pc : ℕ) → registers ≡ c.core.registers → pc ≡ c.core.pc → ahead 0 (timed_at c registers pc) ≡ c
+at_itself c registers pc same here =
+    let At : ℕ → ℕ → List ℕ → ℕ → TimedCore = λ k i registers pc. record c { core = at c.core registers pc; clock = k; instructions = i } in
+    let clock : c.clock + 0 ≡ c.clock = omega arith in
+    let instructions : c.instructions + 0 ≡ c.instructions = omega arith in
+    ap (λ k. At k (c.instructions + 0) registers pc) clock ∙ ap (λ i. At c.clock i registers pc) instructions
+    ∙ ap (λ r. At c.clock c.instructions r pc) same ∙ ap (λ p. At c.clock c.instructions c.core.registers p) here
+
 module _ (image : MemoryImage) (end : ℕ) (line : Option ℕ) (c : TimedCore) (none : c.pace ≡ None) (there : IsThere image c.core line) (free : is_free c.core ≡ true) (fetched : c.core.is_fetched ≡ false) where
   pub led_on : (n : ℕ) (after : List ℕ) (pc_after : ℕ) → c.clock + n ≤ end → LeadsTo line n image c.core.registers c.core.pc after pc_after
       → ran_to image end (ahead n (timed_at c after pc_after)) ≡ ran_to image end c
-  led_on zero after pc_after room led =
-      let At : ℕ → ℕ → List ℕ → ℕ → TimedCore = λ k i registers pc. record c { core = at c.core registers pc; clock = k; instructions = i } in
-      let clock : c.clock + 0 ≡ c.clock = omega arith in
-      let instructions : c.instructions + 0 ≡ c.instructions = omega arith in
-      ap (ran_to image end) (ap (λ k. At k (c.instructions + 0) after pc_after) clock ∙ ap (λ i. At c.clock i after pc_after) instructions
-      ∙ ap (λ r. At c.clock c.instructions r pc_after) led.0 ∙ ap (λ p. At c.clock c.instructions c.core.registers p) led.1)
+  led_on zero after pc_after room led = ap (ran_to image end) (at_itself c after pc_after led.0 led.1)
   led_on (suc n) after pc_after room (between, (pc_between, (led, lies, leads))) =
       let here : TimedCore = timed_at c between pc_between in
       let now : TimedCore = ahead n here in
@@ -71,11 +75,7 @@ module _ (image : MemoryImage) (end : ℕ) (line : Option ℕ) (c : TimedCore) (
       ∙ led_on n between pc_between (omega (arith, room)) led
 
 pub none_ahead : (c : TimedCore) → ahead 0 c ≡ c
-none_ahead c =
-    let At : ℕ → ℕ → TimedCore = λ k i. record c { clock = k; instructions = i } in
-    let clock : c.clock + 0 ≡ c.clock = omega arith in
-    let instructions : c.instructions + 0 ≡ c.instructions = omega arith in
-    ap (λ k. At k (c.instructions + 0)) clock ∙ ap (λ i. At c.clock i) instructions
+none_ahead c = at_itself c c.core.registers c.core.pc refl refl
 
 -- a core that is none ahead has the end of the core itself
 pub from_none_ahead : (image : MemoryImage) (end : ℕ) (c after : TimedCore) → ran_to image end after ≡ ran_to image end (ahead 0 c) → ran_to image end after ≡ ran_to image end c

@@ -12,4 +12,6 @@ pub mod PartsPorts
 pub mod ShardPorts
 pub mod ShardsStay
 pub mod TheseTurns
+mod ToldAlone
+mod ToldTurns
 pub mod Turns

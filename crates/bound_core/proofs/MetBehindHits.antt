@@ -3,8 +3,10 @@ use Rattle.std.proofs.Common.{◌≡◌, ℕ, ◌<◌, ◌∙◌, Bool, true, fa
 use Rattle.std.proofs.lemmas.Bool.{eq-eqb}
 use Rattle.std.specs.Prelude.{if◌then◌else◌}
 use Rattle.zs_num.specs.Request.{line_at}
+use Rattle.zs_num.specs.declared.entry.Entry.{Entry}
 use Rattle.elf_load.specs.MemoryImage.{MemoryImage}
 use Rattle.rv_core.specs.declared.single.Single.{Single}
+use Rattle.rv_core.specs.declared.stint.Stint.{Stint}
 use Rattle.rv_core.specs.Asked.{is_idle}
 use Rattle.rv_core.specs.CoreState.{CoreState}
 use Rattle.rv_core.specs.Executions.{LiesIn}
@@ -13,6 +15,7 @@ use Rattle.rv_core.specs.Single.{begun}
 use Rattle.rv_core.specs.Step.{executed, is_latest}
 use Rattle.reference.specs.Ahead.{ahead}
 use Rattle.bound_core.specs.Met.{begun_in_time}
+use Rattle.bound_core.specs.Stints.{IsStint}
 use Rattle.reference.specs.TimedCore.{TimedCore, ran_to}
 use Rattle.bound_core.proofs.HitTurns.{idle_parts}
 use Rattle.reference.proofs.Instructions.{ran_stays}
@@ -23,6 +26,11 @@ use Rattle.bound_core.proofs.Meeting.{begun_stops}
 pub some_early : (met : Option Single) (clock end : ℕ) → IfSome met (λ single. clock < end) → IsSome met → clock < end
 some_early None clock end early is = cc
 some_early (Some single) clock end early is = early
+
+-- the end of its stint is that of the interval
+pub before_end : {time : Entry → ℕ} {end : ℕ} {c : TimedCore} {stint : Stint} (met : Option Single) (clock : ℕ) → IsStint time end c stint → IfSome met (λ single. clock < stint.end)
+    → IfSome met (λ single. clock < end)
+before_end met clock is early = subst (λ (end : ℕ). IfSome met (λ single. clock < end)) (ap (λ (s : Stint). s.end) is.within) early
 
 equal_itself : (n : ℕ) → is_latest (Some n) n ≡ true
 equal_itself n = eq-eqb n n refl

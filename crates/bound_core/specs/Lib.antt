@@ -1,7 +1,9 @@
 pub mod Met
 pub mod NumberedCores
 pub mod ShardPort
+pub mod Stints
 pub mod Taken
+pub mod ToldTurns
 pub mod Turned
 pub use Rattle.reference.specs.Ahead
 pub use Rattle.reference.specs.Correspondence

@@ -4,6 +4,7 @@ ghost use Rattle.machine_desc.specs.InstructionCaches.{has_l1i};
 ghost use Rattle.zs_num.specs.declared.entry.Entry.{Entry};
 ghost use Rattle.zs_num.specs.Servable.{IsServable};
 ghost use Rattle.machine_desc.specs.Machine.{IsMachine};
+ghost use Rattle.rv_core.specs.Asked.{is_idle};
 ghost use Rattle.rv_core.specs.Single.{begun_if};
 ghost use Rattle.rv_core.specs.Sound.{IsServableIn, IsSoundCore};
 ghost use Rattle.rv_core.specs.Port.{Gains};
@@ -12,7 +13,9 @@ ghost use Rattle.reference.specs.Pacing.{IsSoon};
 ghost use Rattle.reference.specs.IntervalBounds.{latest_clock, most_accesses};
 ghost use Rattle.reference.specs.Ahead.{ahead};
 ghost use Rattle.bound_core.specs.Met.{answered_in_time, begun_in_time};
+ghost use Rattle.bound_core.specs.Stints.{IsStint};
 ghost use Rattle.bound_core.specs.Taken.{HasTaken, TakesThese};
+ghost use Rattle.bound_core.specs.ToldTurns.{TakesTold};
 ghost use Rattle.reference.specs.Turn.{EndsInterval, IsOver, RunsToEnd, TookOne};
 ghost use Rattle.bound_core.specs.Turned.{IfTook, TurnsAs};
 
@@ -25,7 +28,7 @@ use elf_load::Image;
 use event_graph::Expand;
 use machine_desc::Machine;
 use pipe_core::Pace;
-use rv_core::{Came, Core, Port, Program, Single, Stint, Why};
+use rv_core::{Came, Core, Leg, Port, Program, Single, Stint, Why};
 use std::alloc::Global;
 use std::marker::Model;
 use zs_num::{Cycle, Entry, NoMemory, Request};
@@ -332,8 +335,53 @@ impl BoundCore {
         came.accesses
     }
 
-    /// The same. It answers also the access to which the core came, if the next instruction makes one
-    /// that is no hit.
+    /// The same, and it tells where the core went: the legs of its way come behind those that are
+    /// there, as long as there is room for them. Only a core without a pipeline goes on so.
+    #[inline(always)]
+    pub fn take_told_hits<P: Program, X: Expand, Q: Port>(
+        &mut self,
+        program: &P,
+        expansion: &X,
+        end: Cycle,
+        most: u64,
+        port: &mut Q,
+        way: &mut Vec<Leg>,
+    ) -> u64
+        requires core { Q.core port.old ≡ self.old.number }
+        requires base { Q.base port.old ≡ self.old.timed.core.memory.base }
+        requires size { Q.size port.old ≡ self.old.timed.core.memory.size }
+        requires l1i { IsTrue self.old.timed.core.fetching → IsTrue (Q.l1i port.old) }
+        requires room { min most (most_accesses end self.old.timed) ≤ Q.room port.old }
+        requires clock { self.old.timed.clock ≤ 2 ^ 61 }
+        requires end { end ≤ 2 ^ 61 }
+        ensures few { result ≤ most }
+        ensures told { TakesTold (X.time expansion.now) (P.image program.now) end Q.gives Q.logged self.old.number result way.old.items way.new.items port.old port.new self.old.timed self.new.timed }
+        ensures begun { self.old.timed.clock ≤ self.new.timed.clock }
+        ensures within { self.new.timed.clock ≤ max self.old.timed.clock end }
+        ensures latest { latest_clock end self.new.timed ≤ latest_clock end self.old.timed }
+        ensures number { self.new.number ≡ self.old.number }
+        ensures memory { self.new.timed.core.memory ≡ self.old.timed.core.memory }
+        ensures fetching { self.new.timed.core.fetching ≡ self.old.timed.core.fetching }
+        ensures spare { self.new.spare ≡ self.old.spare }
+        ensures port_core { Q.core port.new ≡ Q.core port.old }
+        ensures port_base { Q.base port.new ≡ Q.base port.old }
+        ensures port_size { Q.size port.new ≡ Q.size port.old }
+        ensures port_l1i { Q.l1i port.new ≡ Q.l1i port.old }
+        ensures port_room { Q.room port.old ≤ Q.room port.new + result }
+    {
+        if self.may_go_on(end) {
+            let stint = self.stint(expansion, end, most);
+            let came = self.core.run_told_hits(program, &stint, port, way);
+            self.clock = came.clock;
+            self.instructions += came.count;
+            came.accesses
+        } else {
+            0
+        }
+    }
+
+    /// Takes turns as `take_hits` does. It answers also the access to which the core came, if the next
+    /// instruction makes one that is no hit.
     #[inline(always)]
     fn go_by_hits<P: Program, X: Expand, Q: Port>(
         &mut self,
@@ -368,20 +416,46 @@ impl BoundCore {
         ensures port_l1i { Q.l1i port.new ≡ Q.l1i port.old }
         ensures port_room { Q.room port.old ≤ Q.room port.new + result.accesses }
     {
-        if self.clock < end && self.pace.is_none() && self.core.may_go_on() {
-            let stint = Stint {
-                clock: self.clock,
-                end,
-                hit: expansion.hit_time(false),
-                fetch_hit: expansion.hit_time(true),
-                accesses: most.min(end - self.clock),
-            };
+        if self.may_go_on(end) {
+            let stint = self.stint(expansion, end, most);
             let came = self.core.run_hits(program, &stint, port);
             self.clock = came.clock;
             self.instructions += came.count;
             came
         } else {
             Came::nowhere(0, None, 0)
+        }
+    }
+
+    /// Whether the core may go on by itself to the end of the interval: only one without a pipeline
+    /// does.
+    #[inline(always)]
+    fn may_go_on(&self, end: Cycle) -> bool
+        ensures early { IsTrue result → self.now.timed.clock < end }
+        ensures pace { IsTrue result → self.now.timed.pace ≡ None }
+        ensures idle { IsTrue result → IsTrue (is_idle self.now.timed.core) }
+        ensures line { IsTrue result → IsTrue self.now.timed.core.fetching → IsSome self.now.timed.core.fetched_line }
+    {
+        self.clock < end && self.pace.is_none() && self.core.may_go_on()
+    }
+
+    /// How long it goes on by itself: to the end of the interval, with `most` accesses at most.
+    #[inline(always)]
+    fn stint<X: Expand>(&self, expansion: &X, end: Cycle, most: u64) -> Stint
+        requires early { self.now.timed.clock < end }
+        requires pace { self.now.timed.pace ≡ None }
+        requires idle { IsTrue (is_idle self.now.timed.core) }
+        requires line { IsTrue self.now.timed.core.fetching → IsSome self.now.timed.core.fetched_line }
+        ensures is { IsStint (X.time expansion.now) end self.now.timed result }
+        ensures begins { result.clock ≤ result.end }
+        ensures accesses { result.accesses ≡ min most (end - self.now.timed.clock) }
+    {
+        Stint {
+            clock: self.clock,
+            end,
+            hit: expansion.hit_time(false),
+            fetch_hit: expansion.hit_time(true),
+            accesses: most.min(end - self.clock),
         }
     }
 

@@ -107,6 +107,22 @@ module _ {Port : Type 0} (image : MemoryImage) (memory : MemoryRange) (stint : S
   }
 
   -- a load or a store, with the cycle of its instruction
+  pub makes_hit : (first : ℕ) (slots : List Slot) → AreSlots image first slots → (place : ℕ) (slot : Slot) → slice_get slots place ≡ Some slot
+      → (line : Option ℕ) (left : Left) (x z : List ℕ) (port port_after : Port)
+      → LiesIn line (first + 4 * place) → stint.clock ≤ stint.end → left.cycles + left.waited ≤ stint.end - stint.clock
+      → stint.hit < left.cycles → first + 4 * (place + 1) ≤ 2 ^ 48
+      → IsServed memory gives core_of logged_of slot (stint.end - left.cycles + 1) x port z port_after
+      → MakesHit image memory stint gives core_of logged_of (moment_at stint x (first + 4 * place) line left port)
+      (moment_at stint z (first + 4 * (place + 1)) line (record { cycles = left.cycles - (1 + stint.hit); waited = left.waited + stint.hit; accesses = left.accesses - 1 }) port_after)
+  makes_hit first slots are place slot here line left x z port port_after lies began paid enough memory_ends served = record {
+    lies = lies;
+    access = makes_access memory gives core_of logged_of slot (stint.end - left.cycles + 1) x port image first (length slots) place z port_after (are.access place slot here) memory_ends served;
+    line = refl;
+    clock = omega (arith, paid, enough);
+    count = omega (arith, paid, enough);
+    in_time = omega arith;
+  }
+
   pub comes_by_hit : (first : ℕ) (slots : List Slot) → AreSlots image first slots → (place : ℕ) (slot : Slot) → slice_get slots place ≡ Some slot
       → (line : Option ℕ) (left : Left) (x z : List ℕ) (port port_after : Port)
       → LiesIn line (first + 4 * place) → stint.clock ≤ stint.end → left.cycles + left.waited ≤ stint.end - stint.clock
@@ -115,14 +131,4 @@ module _ {Port : Type 0} (image : MemoryImage) (memory : MemoryRange) (stint : S
       → Comes left.accesses (left.accesses - 1) (moment_at stint x (first + 4 * place) line left port)
       (moment_at stint z (first + 4 * (place + 1)) line (record { cycles = left.cycles - (1 + stint.hit); waited = left.waited + stint.hit; accesses = left.accesses - 1 }) port_after)
   comes_by_hit first slots are place slot here line left x z port port_after lies began paid enough some memory_ends room served =
-      let access = makes_access memory gives core_of logged_of slot (stint.end - left.cycles + 1) x port image first (length slots) place z port_after (are.access place slot here) memory_ends served in
-      comes_by left.accesses _ _ some (omega arith)
-      (inl (record {
-        lies = lies;
-        access = access;
-        line = refl;
-        clock = omega (arith, paid, enough);
-        count = omega (arith, paid, enough);
-        in_time = omega arith;
-      }))
-      (omega arith) room
+      comes_by left.accesses _ _ some (omega arith) (inl (makes_hit first slots are place slot here line left x z port port_after lies began paid enough memory_ends served)) (omega arith) room

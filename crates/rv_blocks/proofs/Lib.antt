@@ -8,4 +8,5 @@ pub mod Standing
 pub mod Serving
 pub mod Steps
 pub mod Stopping
+pub mod Telling
 pub mod Shifts

@@ -3,10 +3,9 @@ use Rattle.std.proofs.Common.{get_or, ◌≡◌, ℕ, zero, suc, ◌+◌, ◌-�
 use Rattle.std.specs.Prelude.{if◌then◌else◌, slice_get, IfSome}
 use Rattle.std.proofs.lemmas.Option.{slice_get-get_or}
 use Rattle.elf_load.specs.MemoryImage.{MemoryImage}
-use Rattle.rv_core.specs.CoreState.{CoreState}
 use Rattle.rv_core.specs.Step.{executed}
 use Rattle.rv_blocks.specs.declared.slot.Slot.{Slot}
-use Rattle.rv_core.specs.Executions.{at, LeadsTo, LiesIn}
+use Rattle.rv_core.specs.Executions.{at, Leads, LeadsTo, LiesIn}
 use Rattle.rv_blocks.specs.Slots.{Placed, Stretch, does, is_plain, left_at, left_of, name_of, AreSlots, Ends}
 
 cost_on : (test : Bool) (m n : ℕ) → IsTrue test → (if test then m else n) ≡ m
@@ -34,13 +33,18 @@ module _ (image : MemoryImage) (first : ℕ) (slots : List Slot) (are : AreSlots
   pub costs_last : is_plain (name_of slot) ≡ false → left_at slots place ≡ 1
   costs_last ends = costs ∙ are.counted place slot here ∙ cost_off (is_plain (name_of slot)) (1 + left_at slots (place + 1)) 1 ends
 
+  pub leads_by : (y z : List ℕ) (next : ℕ)
+      → Some (record { registers = z; place = next }) ≡ does (name_of slot) (record { first = first; count = length slots }) slot (record { registers = y; place = place })
+      → Leads image y (first + 4 * place) z (first + 4 * next)
+  leads_by y z next value core =
+      let stretch : Stretch = record { first = first; count = length slots } in
+      let P : Option Placed → Type 0 = λ o. IfSome o (λ after. executed image (at core y (first + 4 * place)) ≡ at core after.registers (first + 4 * after.place)) in
+      subst P (sym value) (are.stand place slot here core y)
+
   pub one_further : (line : Option ℕ) (n : ℕ) (x y z : List ℕ) (pc next : ℕ) → LeadsTo line n image x pc y (first + 4 * place) → LiesIn line (first + 4 * place)
       → Some (record { registers = z; place = next }) ≡ does (name_of slot) (record { first = first; count = length slots }) slot (record { registers = y; place = place })
       → LeadsTo line (suc n) image x pc z (first + 4 * next)
-  one_further line n x y z pc next led lies value =
-      let stretch : Stretch = record { first = first; count = length slots } in
-      let P : CoreState → Option Placed → Type 0 = λ core o. IfSome o (λ after. executed image (at core y (first + 4 * place)) ≡ at core after.registers (first + 4 * after.place)) in
-      (y, (first + 4 * place, (led, lies, λ core. subst (P core) (sym value) (are.stand place slot here core y))))
+  one_further line n x y z pc next led lies value = (y, (first + 4 * place, (led, lies, leads_by y z next value)))
 
   -- one instruction more, where so much of a budget is not spent
   pub leads_further : (line : Option ℕ) (budget unspent rest : ℕ) (x y z : List ℕ) (pc next : ℕ) → unspent ≡ 1 + rest → unspent ≤ budget

@@ -4,4 +4,5 @@ pub mod Falling
 pub mod Flows
 pub mod Served
 pub mod Slots
+pub mod Telling
 pub mod Tries

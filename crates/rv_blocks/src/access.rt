@@ -55,9 +55,10 @@ struct Stores;
 
 /// Makes the access of a slot at which the loop stopped, if it is a load or a store, where it ends in
 /// time and the port serves it at once. If it doesn't, nothing changes. `left` is what is left of the
-/// stint before the instruction, which takes a cycle of its own.
+/// stint before the instruction, which takes a cycle of its own. The type `T` means nothing, as that of
+/// [`met`].
 #[inline(always)]
-pub(crate) fn hit<Q: Port>(
+pub(crate) fn hit<Q: Port, T>(
     flow: Flow,
     slot: &Slot,
     x: &mut [u64; 32],
@@ -95,8 +96,8 @@ pub(crate) fn hit<Q: Port>(
         return Tried::Not;
     }
     match flow {
-        Flow::Load => load_hit::<Q>(slot, x, memory, stint.end - (left.cycles - 1), port),
-        Flow::Store => store_hit::<Q>(slot, x, memory, stint.end - (left.cycles - 1), port),
+        Flow::Load => load_hit::<Q, T>(slot, x, memory, stint.end - (left.cycles - 1), port),
+        Flow::Store => store_hit::<Q, T>(slot, x, memory, stint.end - (left.cycles - 1), port),
         _ => Tried::Not,
     }
 }
@@ -112,7 +113,7 @@ fn may_hit(stint: &Stint, left: &Left) -> bool
 /// Makes the access of a load, where it is of one line and the port serves it at once. If it
 /// doesn't, nothing changes.
 #[inline(always)]
-fn load_hit<Q: Port>(
+fn load_hit<Q: Port, T>(
     slot: &Slot,
     x: &mut [u64; 32],
     memory: &MemoryRange,
@@ -137,7 +138,7 @@ fn load_hit<Q: Port>(
     ensures port_room { Q.room port.old ≤ Q.room port.new + 1 }
 {
     let addr = x[slot.rs1 as usize].wrapping_add(slot.value);
-    let width = width_of::<(Q, Loads)>(slot.name);
+    let width = width_of::<(T, Loads)>(slot.name);
     if !is_single(memory, addr, width) {
         return Tried::Not;
     }
@@ -185,7 +186,7 @@ fn loaded(name: Name, width: u8, reply: u64) -> u64
 
 /// The same of a store.
 #[inline(always)]
-fn store_hit<Q: Port>(
+fn store_hit<Q: Port, T>(
     slot: &Slot,
     x: &[u64; 32],
     memory: &MemoryRange,
@@ -209,7 +210,7 @@ fn store_hit<Q: Port>(
     ensures port_room { Q.room port.old ≤ Q.room port.new + 1 }
 {
     let addr = x[slot.rs1 as usize].wrapping_add(slot.value);
-    let width = width_of::<(Q, Stores)>(slot.name);
+    let width = width_of::<(T, Stores)>(slot.name);
     if !is_single(memory, addr, width) {
         return Tried::Not;
     }

@@ -11,8 +11,9 @@ use crate::hits::{Gone, by_hits};
 use crate::making::slots_of;
 use crate::perform::place_of;
 use crate::slot::Slot;
+use crate::told_hits::by_told_hits;
 use elf_load::{Image, Segment};
-use rv_core::{Came, Fetched, MemoryRange, Port, Program, Ran, Single, Stint};
+use rv_core::{Came, Fetched, Leg, MemoryRange, Port, Program, Ran, Single, Stint};
 use rv_decode::Inst;
 use std::alloc::Global;
 use std::marker::Model;
@@ -293,6 +294,29 @@ impl Program for DecodedProgram<'_> {
                 came_by(first, stint, halt.gone, met)
             }
             None => Came::nowhere(pc, line, stint.clock),
+        }
+    }
+
+    #[inline(always)]
+    fn run_told_hits<Q: Port>(
+        &self,
+        registers: &mut [u64; 32],
+        pc: u64,
+        line: Option<u64>,
+        memory: &MemoryRange,
+        stint: &Stint,
+        port: &mut Q,
+        way: &mut Vec<Leg>,
+    ) -> Came {
+        let (image, slots, first) = (self.image, &self.slots, self.first);
+        match (line, place_of(pc, first, slots.len())) {
+            (None, Some(place)) => {
+                let gone = by_told_hits::<Q>(
+                    image, slots, first, registers, place, memory, stint, port, way,
+                );
+                came_by(first, stint, gone, None)
+            }
+            _ => Came::nowhere(pc, line, stint.clock),
         }
     }
 }

@@ -102,7 +102,7 @@ pub fn by_hits<Q: Port>(
             Flow::On | Flow::To(_) => {}
             flow => {
                 let slot = slot_at(slots, here.place);
-                match hit::<Q>(flow, slot, x, memory, stint, &here.left, port) {
+                match hit::<Q, Q>(flow, slot, x, memory, stint, &here.left, port) {
                     Tried::Served => {}
                     Tried::Meets(single) => {
                         return Halt {

@@ -1,7 +1,7 @@
 //! A program that is decoded once: its words, and its instructions in a dense form, with a loop over
-//! those that need no memory, up to the access of one that does, and one that goes on over accesses
-//! that are hits. They go by blocks, of whose instructions only the last may jump, and each block is
-//! paid for at its entry.
+//! those that need no memory, up to the access of one that does, one that goes on over accesses that
+//! are hits, and one that also tells where it went. All but the last go by blocks, of whose
+//! instructions only the last may jump, and each block is paid for at its entry.
 #![tactic(auto)]
 
 mod access;
@@ -16,6 +16,7 @@ mod line;
 mod making;
 mod perform;
 mod slot;
+mod told_hits;
 mod tried;
 
 pub use decoded_program::DecodedProgram;

@@ -1,4 +1,7 @@
 //! What came of an access that was tried at once.
+ghost use Rattle.std.specs.Prelude.{◌≡◌};
+ghost use Rattle.rv_blocks.specs.Tries.{is_served};
+
 use rv_core::Single;
 
 /// What came of the access of a load or a store that was to be made at once.
@@ -10,4 +13,14 @@ pub enum Tried {
     Meets(Single),
     /// It is not made, and nobody looked which it is.
     Not,
+}
+
+impl Tried {
+    /// Whether it is made.
+    #[inline(always)]
+    pub fn is_served(self) -> bool
+        ensures { result ≡ is_served self }
+    {
+        matches!(self, Tried::Served)
+    }
 }

@@ -9,3 +9,4 @@ pub mod Executes
 pub mod Words
 pub mod Bytes
 pub mod Begun
+pub mod Nowhere

@@ -12,3 +12,4 @@ pub mod Sound
 pub mod Laws
 pub mod Port
 pub mod Hits
+pub mod Told

@@ -10,6 +10,7 @@ mod control;
 mod did;
 mod execute;
 pub mod laws;
+mod leg;
 mod loads_stores;
 mod memory_range;
 mod pairing;
@@ -26,6 +27,7 @@ mod why;
 
 pub use ask::Ask;
 pub use did::Did;
+pub use leg::Leg;
 pub use memory_range::MemoryRange;
 pub use port::Port;
 pub use program::{Fetched, Program};

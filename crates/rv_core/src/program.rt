@@ -1,13 +1,14 @@
 //! What a core reads its instructions from.
-ghost use Rattle.std.specs.Prelude.{◌≡◌, ◌+◌, ◌%◌, ◌<◌, ◌≤◌, ◌^◌, IfSome, IsSome, IsTrue, None, Some};
+ghost use Rattle.std.specs.Prelude.{◌≡◌, ◌+◌, ◌%◌, ◌<◌, ◌≤◌, ◌^◌, ◌++◌, IfSome, IsSome, IsTrue, List, None, Some};
 ghost use Rattle.elf_load.specs.MemoryImage.{MemoryImage};
 ghost use Rattle.rv_decode.specs.InstructionTable.{decoded};
 ghost use Rattle.rv_core.specs.Fetch.{fetched_at, of_decoded};
 ghost use Rattle.rv_core.specs.Decoded.{HasRegisters};
 ghost use Rattle.rv_core.specs.Executions.{LeadsTo, LiesIn, Meets};
 ghost use Rattle.rv_core.specs.Hits.{HasGoneOn};
+ghost use Rattle.rv_core.specs.Told.{told_of, HasToldGoing, Told};
 
-use crate::{Came, MemoryRange, Port, Ran, Stint};
+use crate::{Came, Leg, MemoryRange, Port, Ran, Stint};
 use elf_load::Image;
 use rv_decode::{Inst, decode};
 
@@ -93,6 +94,38 @@ pub trait Program {
         ensures port_base { Q.base port.new ≡ Q.base port.old }
         ensures port_size { Q.size port.new ≡ Q.size port.old }
         ensures port_l1i { Q.l1i port.new ≡ Q.l1i port.old };
+
+    /// The same, which tells where the core went: the legs of its way come behind those that are
+    /// there, as long as there is room for them. It does not answer an access to which it comes.
+    #[inline(always)]
+    fn run_told_hits<Q: Port>(
+        &self,
+        _registers: &mut [u64; 32],
+        _pc: u64,
+        _line: Option<u64>,
+        _memory: &MemoryRange,
+        _stint: &Stint,
+        _port: &mut Q,
+        _way: &mut Vec<Leg>,
+    ) -> Came
+        requires reach { _memory.now.base + _memory.now.size ≤ 2 ^ 48 }
+        requires base { Q.base _port.old ≡ _memory.now.base }
+        requires size { Q.size _port.old ≡ _memory.now.size }
+        requires l1i { IsSome _line → IsTrue (Q.l1i _port.old) }
+        requires aligned { IsSome _line → _pc % 4 ≡ 0 }
+        requires room { _stint.now.accesses ≤ Q.room _port.old }
+        requires begins { _stint.now.clock ≤ _stint.now.end }
+        ensures gone { (told : List Told) × HasToldGoing (image self.now) _memory.now _stint.now Q.gives Q.core Q.logged Q.room result.accesses (record { registers = _registers.old; pc = _pc; line = _line; clock = _stint.now.clock; count = 0; port = _port.old }) (record { registers = _registers.new; pc = result.pc; line = result.line; clock = result.clock; count = result.count; port = _port.new }) told × (told_of _way.new.items ≡ told_of _way.old.items ++ told) }
+        ensures aligned { IsSome _line → result.pc % 4 ≡ 0 }
+        ensures line { IsSome _line → IsSome result.line }
+        ensures no_line { _line ≡ None → result.line ≡ None }
+        ensures port_core { Q.core _port.new ≡ Q.core _port.old }
+        ensures port_base { Q.base _port.new ≡ Q.base _port.old }
+        ensures port_size { Q.size _port.new ≡ Q.size _port.old }
+        ensures port_l1i { Q.l1i _port.new ≡ Q.l1i _port.old }
+    {
+        Came::nowhere(_pc, _line, _stint.clock)
+    }
 }
 
 impl Program for Image {

@@ -1,5 +1,5 @@
 //! The state of a core.
-ghost use Rattle.std.specs.Prelude.{◌≡◌, ◌+◌, ◌%◌, ◌<◌, ◌≤◌, ◌^◌, ◌++◌, [], ◌∷◌, false, None, Some, IsTrue, IsSome, IfSome, option_map, option_to_list};
+ghost use Rattle.std.specs.Prelude.{◌≡◌, ◌+◌, ◌%◌, ◌<◌, ◌≤◌, ◌^◌, ◌++◌, [], ◌∷◌, false, None, Some, IsTrue, IsSome, IfSome, List, option_map, option_to_list};
 ghost use Rattle.zs_num.specs.PairedRight.{ArePairedRight, IsPairedRight};
 ghost use Rattle.zs_num.specs.Pairing.{is_paired};
 ghost use Rattle.zs_num.specs.Request.{line_at, width_of};
@@ -11,6 +11,7 @@ ghost use Rattle.rv_core.specs.Fetch.{fetched_at};
 ghost use Rattle.rv_core.specs.Decoded.{HasRegisters};
 ghost use Rattle.rv_core.specs.Executions.{at, LeadsTo, LiesIn};
 ghost use Rattle.rv_core.specs.Hits.{line_of, may_go_on, moment_of, HasGoneOn, IsOnItsWay};
+ghost use Rattle.rv_core.specs.Told.{told_of, HasToldGoing, Told};
 ghost use Rattle.rv_core.specs.Progress.{ending_of, IsNarrow};
 ghost use Rattle.rv_core.specs.Asked.{is_idle, is_in_progress};
 ghost use Rattle.rv_core.specs.Single.{begun};
@@ -19,7 +20,7 @@ ghost use Rattle.rv_core.specs.Step.{answered, asks_for_instruction, console_byt
 use crate::pairing::{is_paired, pair};
 use crate::progress::{Progress, Reply};
 use crate::replies::{received, reply_to};
-use crate::{Came, Destination, Fetched, MemoryRange, Port, Program, Ran, Single, Stint, Why};
+use crate::{Came, Destination, Fetched, Leg, MemoryRange, Port, Program, Ran, Single, Stint, Why};
 use rv_decode::Inst;
 use std::marker::Model;
 use zs_num::{LINE, Pairing, Request};
@@ -296,6 +297,48 @@ impl Core {
             &self.memory,
             stint,
             port,
+        );
+        self.pc = came.pc;
+        self.line = if self.fetching { came.line } else { self.line };
+        came
+    }
+
+    /// The same, which tells where the core went: the legs of its way come behind those that are
+    /// there, as long as there is room for them. It answers no access to which the core came.
+    #[inline(always)]
+    pub fn run_told_hits<P: Program, Q: Port>(
+        &mut self,
+        program: &P,
+        stint: &Stint,
+        port: &mut Q,
+        way: &mut Vec<Leg>,
+    ) -> Came
+        requires idle { IsTrue (is_idle self.old) }
+        requires line { IsTrue self.old.fetching → IsSome self.old.fetched_line }
+        requires base { Q.base port.old ≡ self.old.memory.base }
+        requires size { Q.size port.old ≡ self.old.memory.size }
+        requires l1i { IsTrue self.old.fetching → IsTrue (Q.l1i port.old) }
+        requires room { stint.now.accesses ≤ Q.room port.old }
+        requires begins { stint.now.clock ≤ stint.now.end }
+        ensures gone { (told : List Told) × HasToldGoing (P.image program.now) self.old.memory stint.now Q.gives Q.core Q.logged Q.room result.accesses (moment_of self.old stint.now.clock 0 port.old) (moment_of self.new result.clock result.count port.new) told × (told_of way.new.items ≡ told_of way.old.items ++ told) }
+        ensures same { IsOnItsWay self.old self.new }
+        ensures idle { IsTrue (is_idle self.new) }
+        ensures sound { IsSoundCore self.new }
+        ensures port_core { Q.core port.new ≡ Q.core port.old }
+        ensures port_base { Q.base port.new ≡ Q.base port.old }
+        ensures port_size { Q.size port.new ≡ Q.size port.old }
+        ensures port_l1i { Q.l1i port.new ≡ Q.l1i port.old }
+    {
+        rv_decode::laws::fields_are_in_range();
+        let line = if self.fetching { self.line } else { None };
+        let came = program.run_told_hits(
+            &mut self.registers,
+            self.pc,
+            line,
+            &self.memory,
+            stint,
+            port,
+            way,
         );
         self.pc = came.pc;
         self.line = if self.fetching { came.line } else { self.line };
