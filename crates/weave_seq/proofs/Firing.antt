@@ -25,7 +25,7 @@ use Rattle.weave_seq.proofs.Telling.{so_far}
 abbrev pub no_event : Event
 no_event = record { number = 0; core = 0; component = 0; kind = Lookup; critical = false; min_start = 0; min_finish = 0; first = None; second = None }
 
-by_all : {X : Type 0} (P : X → Type 0) (xs : List X) → All P xs → (x : X) → In x xs → P x
+pub by_all : {X : Type 0} (P : X → Type 0) (xs : List X) → All P xs → (x : X) → In x xs → P x
 by_all P xs h x m = let c : Contains xs x = contains_in x xs m in subst P c.2 (h c.0 x c.1)
 
 module _ {C : Type 0} (serves : C → Kind → Bool) (floor : C → Kind → ℕ) (stepped : C → Kind → ℕ → C × ℕ) (greatest : C → Kind → ℕ → ℕ)
@@ -39,7 +39,7 @@ module _ {C : Type 0} (serves : C → Kind → Bool) (floor : C → Kind → ℕ
   abbrev fired : List FiredEvent
   fired = (after_firings stepped events comps n).fired
 
-  rule : (y : FiredEvent) → In y (after_firings stepped events comps n).fired → FiredByTheRules events (after_firings stepped events comps n).fired y
+  pub rule : (y : FiredEvent) → In y (after_firings stepped events comps n).fired → FiredByTheRules events (after_firings stepped events comps n).fired y
   rule = by_all (FiredByTheRules events (after_firings stepped events comps n).fired) (after_firings stepped events comps n).fired (rules events comps n numbered fits)
 
   pub x : FiredEvent
@@ -79,7 +79,7 @@ module _ {C : Type 0} (serves : C → Kind → Bool) (floor : C → Kind → ℕ
     pub at : slice_get events key.number ≡ Some x.event
     at = step.key_at events numbered (after_firings stepped events comps n).fired rule x firing.next s is key first
 
-    start : key.start ≡ x.start
+    pub start : key.start ≡ x.start
     start = step.key_start events numbered (after_firings stepped events comps n).fired rule x firing.next s is key first
 
     -- as the program reads the event
@@ -109,7 +109,7 @@ module _ {C : Type 0} (serves : C → Kind → Bool) (floor : C → Kind → ℕ
           subst (λ z. greatest z (get_or events key.number no_event).kind key.start ≤ 2 ^ 62) (sym comp_is)
           (subst (λ (e : Event). greatest c e.kind key.start ≤ 2 ^ 62) (sym event_is) (subst (λ m. greatest c x.event.kind m ≤ 2 ^ 62) (sym start) small_step))
 
-      stepped_is : stepped (get_or cs (get_or events key.number no_event).component d) (get_or events key.number no_event).kind key.start ≡ stepped c x.event.kind x.start
+      pub stepped_is : stepped (get_or cs (get_or events key.number no_event).component d) (get_or events key.number no_event).kind key.start ≡ stepped c x.event.kind x.start
       stepped_is =
           ap (λ z. stepped z (get_or events key.number no_event).kind key.start) comp_is
           ∙ (ap (λ (e : Event). stepped c e.kind key.start) event_is ∙ ap (λ m. stepped c x.event.kind m) start)

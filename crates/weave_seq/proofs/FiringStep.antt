@@ -40,7 +40,7 @@ by_found None h = refl
 by_found (Some x) h = absurd (cc)
 
 -- an event that comes before another one has an earlier key
-clash : (a : Event) (s : ℕ) (b : Event) (key : Key) (t : ℕ) → key.start ≡ t → b.number ≡ key.number → is_event_before a s b t ≡ true → is_key_before (key_of s a.number) key ≡ false → ⊥
+pub clash : (a : Event) (s : ℕ) (b : Event) (key : Key) (t : ℕ) → key.start ≡ t → b.number ≡ key.number → is_event_before a s b t ≡ true → is_key_before (key_of s a.number) key ≡ false → ⊥
 clash a s b key t start number before late = grind (arith, nat_tests)
 
 -- the known times depend on the finishes of events alone
@@ -157,18 +157,18 @@ module _ (events : List Event) (numbered : IsNumbered events) where
       member : In x.event events
       member = in_contains x.event events next.event
 
-      x_at : slice_get events x.event.number ≡ Some x.event
+      pub x_at : slice_get events x.event.number ≡ Some x.event
       x_at =
           let at : (j : ℕ) × (slice_get events j ≡ Some x.event) = in_at x.event events member in
           ap (λ n. slice_get events n) (numbered.number at.0 x.event at.1) ∙ at.1
 
-      time_at : (j : ℕ) (e : Event) → slice_get events j ≡ Some e → slice_get s.times j ≡ Some (known_time (finish_in fired) (finish_in fired) (finish_in fired) e)
+      pub time_at : (j : ℕ) (e : Event) → slice_get events j ≡ Some e → slice_get s.times j ≡ Some (known_time (finish_in fired) (finish_in fired) (finish_in fired) e)
       time_at j e at = ap (λ v. slice_get v.times j) is ∙ get-map (known_time (finish_in fired) (finish_in fired) (finish_in fired)) e events j at
 
-      waits_at : (j : ℕ) (e : Event) → slice_get events j ≡ Some e → slice_get s.waits j ≡ Some (known_waits (finish_in fired) (finish_in fired) (finish_in fired) e)
+      pub waits_at : (j : ℕ) (e : Event) → slice_get events j ≡ Some e → slice_get s.waits j ≡ Some (known_waits (finish_in fired) (finish_in fired) (finish_in fired) e)
       waits_at j e at = ap (λ v. slice_get v.waits j) is ∙ get-map (known_waits (finish_in fired) (finish_in fired) (finish_in fired)) e events j at
 
-      x_waits : slice_get s.waits x.event.number ≡ Some 0
+      pub x_waits : slice_get s.waits x.event.number ≡ Some 0
       x_waits = waits_at x.event.number x.event x_at ∙ ap (λ w. Some w) (ready_waits x.event next.ready)
 
       pub one_is_ready : NoneIsReady s → ⊥

@@ -1,5 +1,9 @@
 mod Begins
 mod Chains
+mod CoreFiring
+mod CoreKeys
+mod CoreLinks
+mod CoreStep
 mod Earliest
 mod Firing
 mod FiringStep

@@ -1,3 +1,4 @@
+pub mod ByCore
 pub mod Chains
 pub mod Known
 pub mod Order

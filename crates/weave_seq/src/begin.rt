@@ -31,7 +31,7 @@ fn delay(parent: Option<Parent>) -> u64
 }
 
 /// A start before which the event can't start, whenever its parents finish.
-fn earliest_start(event: &Event) -> Cycle
+pub(crate) fn earliest_start(event: &Event) -> Cycle
     ensures { result ≡ start_of (finish_in []) event.now }
 {
     event
