@@ -1,6 +1,8 @@
+pub mod Addresses
 pub mod AloneTold
 pub mod BoundPhase
 pub mod FiredInterval
+pub mod HitsLeave
 pub mod MachineSteps
 pub mod PhaseCounts
 pub mod PhaseStamps
@@ -15,7 +17,10 @@ pub mod RunCounts
 pub mod RunPlaces
 pub mod SameSteps
 pub mod StretchTold
+pub mod Stretches
+pub mod TakingHits
 pub mod TakingTurns
 pub mod ToldParts
 pub mod TurnTold
 pub mod TurnsBegin
+pub mod WayTold

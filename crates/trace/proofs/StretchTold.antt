@@ -1,8 +1,7 @@
 -- Instructions that follow each other, told at once.
-use Rattle.std.proofs.Common.{◌≡◌, ℕ, zero, suc, ◌+◌, ◌-◌, ◌*◌, ◌<◌, ◌≤◌, true, false, List, [], ◌∷◌, ◌++◌, append_assoc, Option, Some, None, refl, sym, ◌∙◌, ap, arith, max, subst, tests}
+use Rattle.std.proofs.Common.{◌≡◌, ℕ, zero, suc, ◌+◌, ◌*◌, ◌<◌, ◌≤◌, true, false, List, [], ◌∷◌, ◌++◌, append_assoc, Option, Some, None, refl, sym, ◌∙◌, ap, arith, max, subst, tests}
 use Rattle.std.specs.Prelude.{is_none}
 use Rattle.std.proofs.lemmas.Bool.{and_parts}
-use Rattle.std.proofs.lemmas.List.{append-nil}
 use Rattle.elf_load.specs.MemoryImage.{MemoryImage}
 use Rattle.rv_core.specs.CoreState.{CoreState, InProgress}
 use Rattle.rv_core.specs.Executions.{at, LeadsTo}
@@ -54,7 +53,7 @@ module _ (image : MemoryImage) (c : TimedCore) (none : c.pace ≡ None) (fetches
       ∙ ap (λ k. At k (c.instructions + n + 1)) clock ∙ ap (λ i. At (c.clock + suc n) i) instructions
 
 -- one more of a stretch
-stretch_more : (core pc n : ℕ) → stretch_steps core pc (suc n) ≡ stretch_steps core pc n ++ Executed core (pc + 4 * n) ∷ []
+pub stretch_more : (core pc n : ℕ) → stretch_steps core pc (suc n) ≡ stretch_steps core pc n ++ Executed core (pc + 4 * n) ∷ []
 stretch_more core pc zero =
     let same : pc ≡ pc + 4 * 0 = omega arith in
     ap (λ (p : ℕ). Executed core p ∷ []) same

@@ -23,7 +23,7 @@ use Rattle.bound_core.specs.Turn.{IsOver}
 use Rattle.reference.proofs.Instructions.{late_stops, ran_stays}
 use Rattle.reference.proofs.Lists.{get_set}
 use Rattle.reference.proofs.Reaching.{by_itself, by_turn}
-use Rattle.trace.specs.Port.{LoggedPortState, gives, phase_of}
+use Rattle.trace.specs.Port.{Gives, LoggedPortState, phase_of}
 use Rattle.bound_records.specs.CoreRuns.{AreNumbered}
 use Rattle.trace.specs.Turns.{HaveTaken, IsOnItsWay, TakesAccess, TakesNone}
 use Rattle.bound_records.proofs.Lists.{get_mapped, get_other, set_cases}
@@ -36,7 +36,7 @@ halted_stops : (end : ℕ) (c : TimedCore) (halted : Option Why) → c.core.halt
 halted_stops end c None e some = cc
 halted_stops end c (Some why) e some = rw e refl
 
-over_asks : (image : MemoryImage) (end : ℕ) (c : TimedCore) → IsOver end c → asks (ran_to image end c) ≡ None
+pub over_asks : (image : MemoryImage) (end : ℕ) (c : TimedCore) → IsOver end c → asks (ran_to image end c) ≡ None
 over_asks image end c over =
     let stops : goes_on_alone end c ≡ false = elim over.over [ inl halted ↦ halted_stops end c c.core.halted refl halted | inr late ↦ late_stops end c late.0 late.1 ] in
     ap asks (ran_stays image end c stops) ∙ ap next_request over.idle
@@ -129,7 +129,7 @@ module _ (time : Entry → ℕ) (image : MemoryImage) (end most : ℕ) (first : 
     reached : Reaches shards_serve time image end first (turns ++ number ∷ []) (phase_of cores_after port_after)
     reached =
         let there : slice_get (timed_of cores) e.core ≡ Some core.timed = ap (slice_get (timed_of cores)) (t.own ∙ own_number) ∙ timed_here in
-        let led = by_turn gives world shards_serve time image end first (phase_of cores port) turns chosen port_after core.timed after.timed h.reaches answers e there (sym world_is) t.turn in
+        let led = by_turn Gives world shards_serve time image end first (phase_of cores port) turns chosen port_after core.timed after.timed h.reaches answers e there (sym world_is) t.turn in
         let to = subst (λ (s : BoundState ShardWorld). Reaches shards_serve time image end first (turns ++ e.core ∷ []) s) moved_is led in
         subst (λ (n : ℕ). Reaches shards_serve time image end first (turns ++ n ∷ []) (phase_of cores_after port_after)) (t.own ∙ own_number) to
 
@@ -153,7 +153,7 @@ module _ (time : Entry → ℕ) (image : MemoryImage) (end most : ℕ) (first : 
 
     stamps_stay : length port_after.world.stamps ≡ length port.world.stamps
     stamps_stay =
-        as_many_stamps chosen.world port_after.world chosen.core (ran_to image end core.timed).clock t.turn.request e t.turn.given ∙ ap (λ (w : ShardWorld). length w.stamps) world_is
+        as_many_stamps chosen.world port_after.world chosen.core (ran_to image end core.timed).clock t.turn.request e t.turn.given.given ∙ ap (λ (w : ShardWorld). length w.stamps) world_is
 
     pub one_taken : end ≤ 10 * 2 ^ 30 → HaveTaken time image end most first (turns ++ number ∷ []) cores_after port_after
     one_taken small =
@@ -174,6 +174,11 @@ module _ (time : Entry → ℕ) (image : MemoryImage) (end most : ℕ) (first : 
           stamps = stamps_stay ∙ h.stamps ∙ sym (length-set cores number after);
           starts = subst (All (λ (x : Entry). x.start ≤ 2 ^ 34)) (sym gained) (All-push (λ (x : Entry). x.start ≤ 2 ^ 34) port.entries e h.starts start);
         }
+
+    -- it has an access less left
+    pub left_taken : (small : end ≤ 10 * 2 ^ 30) → (one_taken small).left ≡ slice_set h.left number (get_or h.left number 0 - 1)
+    unfolding one_taken
+    left_taken small = refl
 
   -- ---- it ended its interval
 

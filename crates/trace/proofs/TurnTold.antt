@@ -8,7 +8,7 @@ use Rattle.bound_core.specs.NumberedCores.{NumberedCore}
 use Rattle.bound_core.specs.TimedCore.{TimedCore, asks, core_after_access, ran_to}
 use Rattle.bound_core.specs.Turn.{IsOver}
 use Rattle.reference.proofs.Instructions.{local_instructions_end, ran_again}
-use Rattle.trace.specs.Port.{LoggedPortState, gives}
+use Rattle.trace.specs.Port.{Gives, LoggedPortState}
 use Rattle.trace.specs.Turns.{TakesAccess, TakesNone}
 
 -- What the local instructions of a core keep, which it has behind it.
@@ -35,7 +35,7 @@ module _ (image : MemoryImage) (end : ℕ) (before ran : NumberedCore) (h : HasR
     turn = record {
       request = t.turn.request;
       asked = ap asks (sym same) ∙ t.turn.asked;
-      given = subst (λ (c : TimedCore). gives port c.clock t.turn.request e port_after) same t.turn.given;
+      given = subst (λ (c : TimedCore). Gives port c.clock t.turn.request e port_after) same t.turn.given;
       left = t.turn.left ∙ ap (core_after_access time e) same;
     };
     own = t.own ∙ h.number;

@@ -4,3 +4,4 @@ pub mod Told
 pub mod Trace
 pub mod TracedRun
 pub mod Turns
+pub mod Ways

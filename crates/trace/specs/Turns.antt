@@ -1,16 +1,22 @@
 -- What the turns of an interval keep, in whatever order the cores take them.
 use Rattle.std.specs.Prelude.{◌≡◌, ◌⊎◌, ℕ, ◌+◌, ◌^◌, ◌<◌, ◌≤◌, min, Bool, IsTrue, List, [], ◌∷◌, ◌++◌, length, slice_get, sum_by, Some, Ok, All}
 use Rattle.zs_num.specs.declared.entry.Entry.{Entry}
+use Rattle.zs_num.specs.declared.entry.Outcome.TheVariants.{Hit}
 use Rattle.elf_load.specs.MemoryImage.{MemoryImage}
 use Rattle.machine_desc.specs.declared.machine.Machine.{Machine}
+use Rattle.rv_core.specs.Told.{Told}
 use Rattle.bound_core.specs.Reaching.{Reaches}
 use Rattle.bound_core.specs.ReferenceMachine.{BoundState, bound_phase}
 use Rattle.bound_core.specs.ShardPort.{base_of, l1i_of, room_of, size_of}
 use Rattle.bound_core.specs.ShardWorld.{ShardWorld, shards_serve}
 use Rattle.bound_core.specs.NumberedCores.{NumberedCore, timed_of}
 use Rattle.bound_core.specs.IntervalBounds.{latest_clock, most_accesses}
+use Rattle.bound_core.specs.Taken.{TakesThese}
+use Rattle.bound_core.specs.ToldTurns.{TellsTurns}
 use Rattle.bound_core.specs.Turn.{EndsInterval, IsOver, TakesTurn}
-use Rattle.trace.specs.Port.{LoggedPortState, gives, phase_of}
+use Rattle.trace.specs.Port.{Gives, LoggedPortState, phase_of}
+use Rattle.trace.specs.Trace.{Step}
+use Rattle.trace.specs.Ways.{told_steps}
 use Rattle.reference.specs.ReferenceRun.{access_room, time_of}
 use Rattle.bound_records.specs.CoreRuns.{AreNumbered}
 
@@ -45,7 +51,7 @@ chosen port number = record port { core = number }
 
 -- what a turn that takes an access does, as the code of a turn says it
 pub record TakesAccess (time : Entry → ℕ) (image : MemoryImage) (end : ℕ) (port port_after : LoggedPortState) (core after : NumberedCore) (e : Entry) : Type 0 where
-  pub turn : TakesTurn time image end gives port port_after core.timed after.timed e
+  pub turn : TakesTurn time image end Gives port port_after core.timed after.timed e
   pub own : e.core ≡ core.number
   pub start : e.start ≤ latest_clock end core.timed
   pub fewer : most_accesses end after.timed < most_accesses end core.timed
@@ -68,6 +74,18 @@ pub record TakesNone (image : MemoryImage) (end : ℕ) (port port_after : Logged
   pub number : after.number ≡ core.number
   pub memory : after.timed.core.memory ≡ core.timed.core.memory
   pub fetching : after.timed.core.fetching ≡ core.timed.core.fetching
+  pub spare : after.spare ≡ core.spare
+
+-- what so many turns do whose accesses are hits, and instructions of the turn that follows, and what is told of them
+pub record TakesHits (time : Entry → ℕ) (image : MemoryImage) (end count : ℕ) (port port_after : LoggedPortState) (core after : NumberedCore) (steps steps_after : List Step) : Type 0 where
+  pub entries : List Entry
+  pub told : List Told
+  pub many : length entries ≡ count
+  pub these : TakesThese time image end Gives (λ p. Some p.entries) core.number entries port port_after core.timed after.timed
+  pub hits : All (λ e. e.outcome ≡ Hit) entries
+  pub tells : TellsTurns time image end told entries core.timed after.timed
+  pub are : steps_after ≡ steps ++ told_steps core.number told entries
+  pub number : after.number ≡ core.number
   pub spare : after.spare ≡ core.spare
 
 -- ---- all turns of an interval

@@ -30,8 +30,9 @@ use noc_mesh::Net;
 use replay::ReplayFail;
 use run::{WovenInterval, access_room, delay_all, events_of, woven_of};
 use rv_blocks::DecodedProgram;
+use rv_core::Leg;
 use std::alloc::Global;
-use weave_seq::weave_seq;
+use weave_seq::weave_by_core;
 use zs_num::{Cycle, Entries, Entry, NoMemory};
 
 /// Runs this interval, which ends at cycle `end`, 10 * 2^30 at most, under a list of turns, and
@@ -67,11 +68,12 @@ pub fn interval_under<T: Tracer>(
     shard::laws::marks();
     shard::laws::shards_stand_for_a_machine();
     bound_core::laws::shards_do_as_the_machine();
+    noc_mesh::laws::net_events_are_in_a_row();
     let entries = bound_under(
         run, alloc, machine, program, net, end, interval, turns, list, tracer,
     )?;
     let graph = events_of(alloc, machine, net, &entries, &run.comps)?;
-    let fired = weave_seq(alloc, &graph, &mut run.comps)?;
+    let fired = weave_by_core(alloc, net, &graph, machine.cores, &mut run.comps)?;
     take_in(run, alloc, machine, &entries, graph, fired, tracer)?;
     Ok(entries.into_list())
 }
@@ -115,6 +117,7 @@ fn bound_under<T: Tracer>(
         turns,
         &mut run.cores,
         &mut run.port,
+        &mut run.way,
         tracer,
     )?;
     Ok(run.port.take_sorted(alloc))
@@ -131,6 +134,7 @@ fn run_turns<T: Tracer>(
     turns: &[u16],
     cores: &mut [BoundCore],
     port: &mut LoggedPort,
+    way: &mut Vec<Leg>,
     tracer: &mut T,
 ) -> Result<(), ReplayFail>
     requires machine { IsMachine machine.now }
@@ -150,7 +154,7 @@ fn run_turns<T: Tracer>(
     ensures illegal { IfErr result (λ fail. IfIllegal fail (λ at. (at.interval ≡ interval) × (bound_phase shards_serve (time_of machine.now) program.now end turns.now (phase_of cores.old port.old) ≡ Err at.place))) }
 {
     reserve_all(machine, cores)?;
-    take_turns(program, net, end, interval, turns, cores, port, tracer)?;
+    take_turns(program, net, end, interval, turns, cores, port, way, tracer)?;
     Ok(())
 }
 

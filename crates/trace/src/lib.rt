@@ -5,6 +5,7 @@ mod alone;
 mod interval;
 pub mod laws;
 mod logged_port;
+mod telling;
 mod traced_run;
 mod tracer;
 mod tracing;

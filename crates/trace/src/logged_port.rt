@@ -1,13 +1,15 @@
 //! A port through which cores access caches and memory, and which logs what they do.
-ghost use Rattle.std.specs.Prelude.{◌≡◌, ◌≤◌, ◌<◌, ◌&&◌, [], length, map, min, nat_lt, true, Some, IfOk, OnOk};
+ghost use Rattle.std.specs.Prelude.{◌≡◌, ◌+◌, ◌-◌, ◌≤◌, ◌<◌, ◌&&◌, [], ◌∷◌, ◌++◌, drop, length, map, min, nat_lt, true, Some, IfNone, IfOk, IfSome, OnOk};
 ghost use Rattle.machine_desc.specs.Machine.{IsMachine};
+ghost use Rattle.zs_num.specs.Servable.{IsServable};
+ghost use Rattle.rv_core.specs.Port.{IsHit};
 ghost use Rattle.shard.specs.StandsFor.{new_shards};
 ghost use Rattle.access_log.specs.History.{AreRising};
 ghost use Rattle.access_log.specs.Logs.{HaveDistinctKeys};
 ghost use Rattle.access_log.specs.RecordedOrder.{recorded_order};
 ghost use Rattle.bound_core.specs.ShardPort.{base_of, l1i_of, room_of, size_of};
 ghost use Rattle.bound_core.specs.ShardWorld.{begun_world, restarted};
-ghost use Rattle.trace.specs.Port.{gives, leaves_shards};
+ghost use Rattle.trace.specs.Port.{Gives, leaves_shards};
 
 use access_log::sort;
 use bound_core::{PartsPort, Port};
@@ -18,6 +20,11 @@ use std::alloc::Global;
 use std::marker::Model;
 use std::mem;
 use zs_num::{Cycle, Entries, Entry, NoMemory, Request, Stamp};
+
+/// The hits of loads, and those of stores: what is compiled for each is compiled for one call.
+struct Loads;
+
+struct Stores;
 
 /// The caches and the memory of a machine, and the accesses that they have served in the interval
 /// so far, in the order of the turns. It knows whether the stamps of these have risen from each to
@@ -96,6 +103,52 @@ impl LoggedPort {
         self.port.leaving(request)
     }
 
+    /// How many accesses there are so far.
+    pub fn count(&self) -> usize
+        ensures { result ≡ length self.now.entries }
+    {
+        self.entries.len()
+    }
+
+    /// The accesses behind so many.
+    pub fn behind(&self, count: usize) -> &[Entry]
+        requires { count ≤ length self.now.entries }
+        ensures { result.now ≡ drop count self.now.entries }
+    {
+        &self.entries[count..]
+    }
+
+    /// Serves an access of the chosen core that starts then, where the core's own L1 can serve it
+    /// alone: a hit. The answer is the reply. None: nothing changes.
+    #[inline(always)]
+    fn hit<T>(&mut self, start: Cycle, request: Request) -> Option<u64>
+        requires room { 1 ≤ min (room_of self.old.world) self.old.room }
+        requires servable { IsServable (base_of self.old.world) (size_of self.old.world) (l1i_of self.old.world) request }
+        ensures hit { IfSome result (λ reply. IsHit Gives (λ p. p.core) (λ p. Some p.entries) self.old start request reply self.new) }
+        ensures none { IfNone result (self.new ≡ self.old) }
+        ensures same_core { self.new.core ≡ self.old.core }
+        ensures same_base { base_of self.new.world ≡ base_of self.old.world }
+        ensures same_size { size_of self.new.world ≡ size_of self.old.world }
+        ensures same_l1i { l1i_of self.new.world ≡ l1i_of self.old.world }
+        ensures room { min (room_of self.old.world) self.old.room ≤ min (room_of self.new.world) self.new.room + 1 }
+    {
+        let entry = self.port.access_alone::<T>(start, request)?;
+        self.log::<T>(&entry);
+        Some(entry.reply)
+    }
+
+    /// Logs an access, behind those that there are. What is compiled for `T`, any type, is compiled
+    /// for the callers that name it.
+    #[inline(always)]
+    fn log<T>(&mut self, entry: &Entry)
+        requires { 0 < self.old.room }
+        ensures { self.new ≡ record self.old { entries = self.old.entries ++ entry.now ∷ []; room = self.old.room - 1 } }
+    {
+        self.rises = rises_to(self.rises, self.last, entry.stamp);
+        self.last = entry.stamp;
+        self.entries.push_reserved(anew(entry));
+    }
+
     /// Hands out the accesses, in recorded order, and keeps none.
     pub fn take_sorted(&mut self, alloc: Global) -> Entries
         requires { HaveDistinctKeys self.old.entries }
@@ -122,17 +175,26 @@ impl Port for LoggedPort {
 
     ghost room = { λ p. min (room_of p.world) p.room };
 
-    ghost gives = { gives };
+    ghost gives = { Gives };
 
     ghost logged = { λ p. Some p.entries };
 
     #[inline(always)]
     fn access(&mut self, start: Cycle, request: Request) -> Entry {
         let entry = self.port.access(start, request);
-        self.rises = rises_to(self.rises, self.last, entry.stamp);
-        self.last = entry.stamp;
-        self.entries.push_reserved(anew(&entry));
+        self.log::<LoggedPort>(&entry);
         anew(&entry)
+    }
+
+    #[inline(always)]
+    fn load_hit(&mut self, start: Cycle, addr: u64, width: u8) -> Option<u64> {
+        self.hit::<Loads>(start, Request::Load { addr, width })
+    }
+
+    #[inline(always)]
+    fn store_hit(&mut self, start: Cycle, addr: u64, width: u8, value: u64) -> bool {
+        self.hit::<Stores>(start, Request::Store { addr, width, value })
+            .is_some()
     }
 }
 

@@ -13,18 +13,23 @@ use component::{Comp, Comps, components};
 use elf_load::Image;
 use machine_desc::Machine;
 use run::{Final, first_cores, has_ended};
+use rv_core::Leg;
 use stats::Counters;
 use std::alloc::Global;
 use zs_num::NoMemory;
 
+/// The legs of a core's way for which there is room.
+const LEGS: usize = 1024;
+
 /// A run between two intervals: its cores in order of their numbers, caches and memory with the
-/// accesses of an interval, its components, and what was counted so far.
+/// accesses of an interval, its components, what was counted so far, and room for the way of a core.
 #[derive(Drop)]
 pub struct TracedRun {
     pub cores: Vec<BoundCore>,
     pub port: LoggedPort,
     pub comps: Comps<Comp>,
     pub counters: Counters,
+    pub way: Vec<Leg>,
 }
 
 impl TracedRun {
@@ -44,6 +49,7 @@ impl TracedRun {
             port: LoggedPort::new(alloc, machine, image)?,
             comps: components(alloc, machine)?,
             counters: Counters::new(alloc, machine)?,
+            way: Vec::with_capacity(alloc, LEGS)?,
         })
     }
 

@@ -1,31 +1,34 @@
 //! The turns of an interval in the order of a list, as they are told.
-ghost use Rattle.std.specs.Prelude.{◌≡◌, ◌*◌, ◌++◌, ◌∷◌, ◌<◌, ◌≤◌, ◌^◌, ℕ, List, [], All, false, length, min, true, Err, IfErr, IfOk, IsTrue, OnOk, Ok, Some};
+ghost use Rattle.std.specs.Prelude.{◌≡◌, ◌+◌, ◌*◌, ◌++◌, ◌∷◌, ◌<◌, ◌≤◌, ◌^◌, ℕ, List, [], All, false, length, min, replicate, slice_get, slice_index, take, true, Err, IfErr, IfOk, IsTrue, OnOk, Ok, Some};
 ghost use Rattle.zs_num.specs.declared.entry.Entry.{Entry};
 ghost use Rattle.bound_core.specs.ReferenceMachine.{BoundState, bound_phase};
 ghost use Rattle.bound_core.specs.ShardWorld.{ShardWorld, shards_serve};
 ghost use Rattle.bound_core.specs.ShardPort.{base_of, l1i_of, room_of, size_of};
-ghost use Rattle.bound_core.specs.IntervalBounds.{latest_clock};
-ghost use Rattle.bound_core.specs.NumberedCores.{timed_of};
+ghost use Rattle.bound_core.specs.IntervalBounds.{latest_clock, most_accesses};
+ghost use Rattle.bound_core.specs.NumberedCores.{NumberedCore, timed_of};
 ghost use Rattle.bound_core.specs.TimedCore.{asks, ran_to};
 ghost use Rattle.bound_core.specs.Turn.{IsOver};
 ghost use Rattle.bound_records.specs.Turns.{time_by_net};
 ghost use Rattle.replay.specs.Replay.{IfIllegal};
 ghost use Rattle.trace.specs.Port.{leaves_shards, phase_of};
 ghost use Rattle.trace.specs.Trace.{access_step, last_from, phase_steps, turn_steps};
-ghost use Rattle.trace.specs.Turns.{HaveTaken, IsOnItsWay, TakesAccess, TakesNone, chosen};
+ghost use Rattle.trace.specs.Turns.{HaveTaken, IsOnItsWay, TakesAccess, TakesHits, TakesNone, chosen};
 
 use crate::Tracer;
 use crate::alone::run_alone;
 use crate::logged_port::LoggedPort;
+use crate::telling::tell_way;
 use bound_core::{BoundCore, Turned};
 use noc_mesh::Net;
 use replay::ReplayFail;
 use rv_blocks::DecodedProgram;
+use rv_core::Leg;
 use zs_num::{Cycle, NoMemory, Request};
 
 /// Takes the turns of a list in this interval, and then has each core end it. Where the list is not
 /// legal, it answers the first place that is not: the core there has no access before it ends its
-/// interval; or it is the place after the last, and a core still has one.
+/// interval; or it is the place after the last, and a core still has one. The legs of the cores' ways
+/// are put into `way`, as long as there is room for them.
 pub fn take_turns<T: Tracer>(
     program: &DecodedProgram<'_>,
     net: &Net,
@@ -34,6 +37,7 @@ pub fn take_turns<T: Tracer>(
     turns: &[u16],
     cores: &mut [BoundCore],
     port: &mut LoggedPort,
+    way: &mut Vec<Leg>,
     tracer: &mut T,
 ) -> Result<(), ReplayFail>
     requires end { end ≤ 10 * 2 ^ 30 }
@@ -49,10 +53,13 @@ pub fn take_turns<T: Tracer>(
     ensures over { IfOk result (λ _. All (IsOver end) (timed_of cores.new)) }
     ensures count { length cores.new ≡ length cores.old }
 {
-    for (place, number) in turns.iter().enumerate() {
-        let core = &mut cores[usize::from(*number)];
-        let took = take_turn(program, net, end, *number, core, port, tracer)?;
-        if !took {
+    let mut place = 0;
+    while place < turns.len() {
+        let number = turns[place];
+        let count = stretch(turns, place);
+        let taken = take_stretch(program, net, end, number, count, cores, port, way, tracer)?;
+        place += taken;
+        if taken < count {
             return Err(ReplayFail::Illegal {
                 interval,
                 place: place as u32,
@@ -68,6 +75,124 @@ pub fn take_turns<T: Tracer>(
             place: turns.len() as u32,
         })
     }
+}
+
+/// How many turns of one core stand in the list one after the other, from this place on.
+fn stretch(turns: &[u16], place: usize) -> usize
+    requires place { place < length turns.now }
+    ensures some { 0 < result }
+    ensures within { place + result ≤ length turns.now }
+    ensures same { take (place + result) turns.now ≡ take place turns.now ++ replicate result (slice_index turns.now place) }
+{
+    let mut count = 1;
+    while place + count < turns.len() && turns[place + count] == turns[place] {
+        count += 1;
+    }
+    count
+}
+
+/// Takes so many turns of the core of this number, one after the other, and answers how many it
+/// took: where they are fewer, the core has no access before it ends its interval. Of the last one
+/// nothing that comes behind its access is told.
+fn take_stretch<T: Tracer>(
+    program: &DecodedProgram<'_>,
+    net: &Net,
+    end: Cycle,
+    number: u16,
+    count: usize,
+    cores: &mut [BoundCore],
+    port: &mut LoggedPort,
+    way: &mut Vec<Leg>,
+    tracer: &mut T,
+) -> Result<usize, NoMemory>
+    requires end { end ≤ 10 * 2 ^ 30 }
+    requires known { number < length cores.old }
+    requires taken { (most : ℕ) × (first : BoundState ShardWorld) × (turns : List ℕ) × HaveTaken (time_by_net net.now) program.now end most first turns cores.old port.old }
+    ensures few { IfOk result (λ taken. taken ≤ count) }
+    ensures taken { IfOk result (λ taken. (most : ℕ) (first : BoundState ShardWorld) (turns : List ℕ) → HaveTaken (time_by_net net.now) program.now end most first turns cores.old port.old → HaveTaken (time_by_net net.now) program.now end most first (turns ++ replicate taken number) cores.new port.new) }
+    ensures told { IfOk result (λ taken. taken ≡ count → (rest : List ℕ) → T.steps tracer.new ++ phase_steps shards_serve leaves_shards program.now end (time_by_net net.now) rest (phase_of cores.new port.new) ≡ T.steps tracer.old ++ phase_steps shards_serve leaves_shards program.now end (time_by_net net.now) (replicate count number ++ rest) (phase_of cores.old port.old)) }
+    ensures fixed { T.fixed tracer.new ≡ T.fixed tracer.old }
+    ensures over { IfOk result (λ taken. taken < count → (core : NumberedCore) → slice_get cores.new number ≡ Some core → IsOver end core.timed) }
+    ensures count { length cores.new ≡ length cores.old }
+{
+    let mut taken = 0;
+    while taken < count {
+        let most = count - taken - 1;
+        let hits = take_hits(program, net, end, number, most, cores, port, way, tracer)?;
+        taken += hits;
+        let core = &mut cores[usize::from(number)];
+        let took = take_turn(program, net, end, number, core, port, tracer)?;
+        if !took {
+            return Ok(taken);
+        }
+        taken += 1;
+    }
+    Ok(taken)
+}
+
+/// Takes turns of the core of this number whose accesses are hits that are at hand, `most` at most,
+/// and instructions of the turn that follows, and tells them. Answers how many turns it took, which
+/// may be 0.
+fn take_hits<T: Tracer>(
+    program: &DecodedProgram<'_>,
+    net: &Net,
+    end: Cycle,
+    number: u16,
+    most: usize,
+    cores: &mut [BoundCore],
+    port: &mut LoggedPort,
+    way: &mut Vec<Leg>,
+    tracer: &mut T,
+) -> Result<usize, NoMemory>
+    requires end { end ≤ 10 * 2 ^ 30 }
+    requires known { number < length cores.old }
+    requires taken { (most : ℕ) × (first : BoundState ShardWorld) × (turns : List ℕ) × HaveTaken (time_by_net net.now) program.now end most first turns cores.old port.old }
+    ensures few { IfOk result (λ taken. taken ≤ most) }
+    ensures taken { IfOk result (λ taken. (most : ℕ) (first : BoundState ShardWorld) (turns : List ℕ) → HaveTaken (time_by_net net.now) program.now end most first turns cores.old port.old → HaveTaken (time_by_net net.now) program.now end most first (turns ++ replicate taken number) cores.new port.new) }
+    ensures told { IfOk result (λ taken. (rest : List ℕ) → T.steps tracer.new ++ phase_steps shards_serve leaves_shards program.now end (time_by_net net.now) (number ∷ rest) (phase_of cores.new port.new) ≡ T.steps tracer.old ++ phase_steps shards_serve leaves_shards program.now end (time_by_net net.now) (replicate taken number ++ number ∷ rest) (phase_of cores.old port.old)) }
+    ensures fixed { T.fixed tracer.new ≡ T.fixed tracer.old }
+    ensures count { length cores.new ≡ length cores.old }
+{
+    let core = &mut cores[usize::from(number)];
+    if most == 0 || core.halted().is_some() || core.clock() >= end {
+        return Ok(0);
+    }
+    let taken = take_told_hits(program, net, end, number, most, core, port, way, tracer)?;
+    Ok(taken)
+}
+
+/// The same of a core, which has this number.
+fn take_told_hits<T: Tracer>(
+    program: &DecodedProgram<'_>,
+    net: &Net,
+    end: Cycle,
+    number: u16,
+    most: usize,
+    core: &mut BoundCore,
+    port: &mut LoggedPort,
+    way: &mut Vec<Leg>,
+    tracer: &mut T,
+) -> Result<usize, NoMemory>
+    requires end { end ≤ 10 * 2 ^ 30 }
+    requires number { core.old.number ≡ number }
+    requires known { number < length port.old.world.stamps }
+    requires base { base_of port.old.world ≡ core.old.timed.core.memory.base }
+    requires size { size_of port.old.world ≡ core.old.timed.core.memory.size }
+    requires l1i { IsTrue core.old.timed.core.fetching → IsTrue (l1i_of port.old.world) }
+    requires room { most_accesses end core.old.timed ≤ min (room_of port.old.world) port.old.room }
+    requires clock { core.old.timed.clock ≤ 2 ^ 61 }
+    ensures few { IfOk result (λ taken. taken ≤ most) }
+    ensures hits { IfOk result (λ taken. TakesHits (time_by_net net.now) program.now end taken (chosen port.old number) port.new core.old core.new (T.steps tracer.old) (T.steps tracer.new)) }
+    ensures fixed { T.fixed tracer.new ≡ T.fixed tracer.old }
+{
+    port.choose(number);
+    // The address of its next instruction is one of 64 bits.
+    let _pc = core.core().pc();
+    let so_far = port.count();
+    way.clear();
+    let taken = core.take_told_hits(program, net, end, most as u64, port, way);
+    tell_way(number, way, port.behind(so_far), tracer)?;
+    Ok(taken as usize)
 }
 
 /// Has each core end its interval. Answers false where one still has an access.

@@ -1,10 +1,9 @@
-use Rattle.std.proofs.Common.{◌≡◌, Bool, true, false, ◌&&◌, refl, List, ◌++◌, sym, ◌∙◌, ap, arith, rules}
+use Rattle.std.proofs.Common.{◌≡◌, false, List, ◌++◌, sym, ◌∙◌, ap, arith, rules}
 use Rattle.std.proofs.lemmas.List.{append-nil}
-use Rattle.bound_core.specs.NumberedCores.{NumberedCore}
 use Rattle.bound_core.specs.TimedCore.{goes_on_alone}
 use Rattle.reference.proofs.Instructions.{ran_stays}
 use Rattle.trace.specs.Trace.{Step}
-use Rattle.trace.proofs.AloneTold.{none_alone, still_ran, still_told, stopped_by}
+use Rattle.trace.proofs.AloneTold.{none_alone}
 use Rattle.trace.proofs.alone.run_alone.Goals as goal
 
 pub tell_more-requires-clause-clock : goal.tell_more-requires-clause-clock

@@ -1,8 +1,5 @@
-use Rattle.std.proofs.Common.{◌≡◌, true, false, List, ◌++◌, ◌∙◌, ap, rules}
-use Rattle.std.specs.Prelude.{[], if◌then◌else◌}
+use Rattle.std.proofs.Common.{◌≡◌, false, ◌∙◌, ap}
 use Rattle.bound_core.specs.NumberedCores.{NumberedCore}
-use Rattle.reference.specs.TimedCore.{TimedCore, after_instruction, goes_on_alone, ran_to}
-use Rattle.trace.specs.Trace.{Step, executed_by, steps_alone}
 use Rattle.trace.proofs.AloneTold.{still_ran, still_told}
 use Rattle.trace.proofs.alone.tell_more.Goals as goal
 

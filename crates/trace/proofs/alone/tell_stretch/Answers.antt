@@ -1,10 +1,8 @@
-use Rattle.std.proofs.Common.{◌≡◌, ℕ, ◌+◌, ◌<◌, ◌≤◌, List, [], ◌∷◌, ◌++◌, append_assoc, sym, ◌∙◌, ap, arith}
+use Rattle.std.proofs.Common.{◌≡◌, ℕ, ◌≤◌, ◌++◌, sym, ◌∙◌, ap, arith}
 use Rattle.std.proofs.lemmas.List.{append-nil}
 use Rattle.rv_core.specs.CoreState.{CoreState}
-use Rattle.elf_load.specs.MemoryImage.{MemoryImage}
-use Rattle.reference.specs.TimedCore.{TimedCore}
 use Rattle.reference.proofs.Accesses.{clock_within}
-use Rattle.trace.specs.Trace.{Executed, Step, steps_alone, stretch_steps}
+use Rattle.trace.specs.Trace.{stretch_steps}
 use Rattle.trace.proofs.StretchTold.{HasRun, ran_no_more, ran_not_later, ran_same_end, told_on}
 use Rattle.trace.proofs.alone.tell_stretch.Goals as goal
 use Rattle.trace.proofs.alone.tell_stretch.Goals.{then-count-gt1+in_ok-executed_all, else-count-gt1+then-count-eq1+in_ok-executed, else-count-gt1+else-count-eq1}

@@ -76,7 +76,7 @@ returns-clause-bounded g c =
     in
     let taken = c.take_sorted.ensures in
     let long : length after ≡ p.cores.len = omega (arith, c.run_turns.auto.cores, ap length c.deref_mut.ensures.value, p.cores.ok.0) in
-    let q : TracedRun = record { cores = with_items p.cores after; port = c.take_sorted.new.self; comps = p.comps; counters = p.counters } in
+    let q : TracedRun = record { cores = with_items p.cores after; port = c.take_sorted.new.self; comps = p.comps; counters = p.counters; way = c.run_turns.new.way } in
     bounded machine image end cores after was last turns count c.requires.room.shards.some phase (c.phases_are_histories.ensures (time_of machine) image end)
     h.starts h.few h.clocks (h.count ∙ count) h.numbered h.over
     p q (sym c.deref_mut.ensures.value) refl (with_items_is p.cores after long) taken.world c.take_sorted.result taken.entries

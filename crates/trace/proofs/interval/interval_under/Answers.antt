@@ -81,7 +81,7 @@ take_in-requires-clause-fired g c =
       image,
       goes.0,
       c.args.turns.now,
-      has_fired machine image c.args.end goes.0 c.args.turns.now (as_run machine c.args.run.now) (as_run machine c.bound_under.new.run) c.in_ok-entries.entries c.in_ok-graph.graph c.in_ok-fired.fired c.weave_seq.new.comps
+      has_fired machine image c.args.end goes.0 c.args.turns.now (as_run machine c.args.run.now) (as_run machine c.bound_under.new.run) c.in_ok-entries.entries c.in_ok-graph.graph c.in_ok-fired.fired c.weave_by_core.new.comps
           goes.1 ran.bounded ran.comps ran.counters c.requires.room.components c.in_ok-graph.ensures c.in_ok-fired.ensures.fired c.in_ok-fired.ensures.comps,
     )
 
@@ -91,7 +91,7 @@ returns-clause-leads g c = λ s goes.
     let image = c.args.program.now in
     let ran = c.in_ok-entries.ensures in
     let leads = c.in_ok-take_in.ensures.leads image s c.args.turns.now
-    (has_fired machine image c.args.end s c.args.turns.now (as_run machine c.args.run.now) (as_run machine c.bound_under.new.run) c.in_ok-entries.entries c.in_ok-graph.graph c.in_ok-fired.fired c.weave_seq.new.comps
+    (has_fired machine image c.args.end s c.args.turns.now (as_run machine c.args.run.now) (as_run machine c.bound_under.new.run) c.in_ok-entries.entries c.in_ok-graph.graph c.in_ok-fired.fired c.weave_by_core.new.comps
     goes ran.bounded ran.comps ran.counters c.requires.room.components c.in_ok-graph.ensures c.in_ok-fired.ensures.fired c.in_ok-fired.ensures.comps)
     in
     leads.0
@@ -122,7 +122,7 @@ returns-clause-told g c = λ s goes.
     in
     let laws : StepLaws image end = record { cores = cores; shards = c.shards_stand_for_a_machine.ensures; marks = c.marks.ensures; leaves = leave_alike c.leaving_is_the_machines.ensures image end } in
     let one = c.in_ok-take_in.ensures.told image s turns
-    (has_fired machine image end s turns p (as_run machine c.bound_under.new.run) entries c.in_ok-graph.graph c.in_ok-fired.fired c.weave_seq.new.comps
+    (has_fired machine image end s turns p (as_run machine c.bound_under.new.run) entries c.in_ok-graph.graph c.in_ok-fired.fired c.weave_by_core.new.comps
     goes ran.bounded ran.comps ran.counters c.requires.room.components c.in_ok-graph.ensures c.in_ok-fired.ensures.fired c.in_ok-fired.ensures.comps)
     in
     one
@@ -130,3 +130,6 @@ returns-clause-told g c = λ s goes.
     ∙ append_assoc before phase (ended ∷ [])
     ∙ ap (λ (steps : List Step). before ++ steps)
     (interval_told machine image end s p goes turns laws (c.shards_do_as_the_machine.ensures (time_of machine) image end) ran.bounded.left ran.bounded.phase entries ran.bounded.in_order)
+
+pub weave_by_core-requires-clause-rows : goal.weave_by_core-requires-clause-rows
+weave_by_core-requires-clause-rows g c = λ e. c.net_events_are_in_a_row.ensures c.args.net.now.path e

@@ -118,7 +118,7 @@ returns-clause-leads g c = λ image s turns h.
     let long : length c.delay_all.new.cores ≡ q.cores.len = omega (arith, c.delay_all.auto.cores, ap length c.deref_mut.ensures.value, q.cores.ok.0) in
     let written = with_items_is q.cores c.delay_all.new.cores long in
     leads_on machine c.requires.machine image h.end s h.before (as_run machine q) h.goes_on turns entries b laws i is refl (weave.timely, weave.delays_small) weave.few are
-    (as_run machine (record { cores = with_items q.cores c.delay_all.new.cores; port = q.port; comps = q.comps; counters = c.add.new.self }))
+    (as_run machine (record { cores = with_items q.cores c.delay_all.new.cores; port = q.port; comps = q.comps; counters = c.add.new.self; way = q.way }))
     (ap timed_of written ∙ waited) (subst AreNumbered (sym written) numbered) refl comps
     (c.add.ensures ∙ ap (λ (counts : Counts). added counts i q.comps) h.counters)
 
