@@ -78,6 +78,7 @@ impl Tracer for LastJumps {
         Ok(())
     }
 
+    #[inline(always)]
     fn accessed(&mut self, pc: u64, entry: &Entry, leaving: Leaving) -> Result<(), NoMemory> {
         self.told = self.told.then_accessed(&pc, entry, &leaving);
         Ok(())

@@ -67,16 +67,19 @@ impl Tracer for LineUse {
 
     ghost fixed = { λ _. tt };
 
+    #[inline(always)]
     fn executed(&mut self, core: u16, pc: u64) -> Result<(), NoMemory> {
         self.told = self.told.then_executed(&core, &pc);
         Ok(())
     }
 
+    #[inline(always)]
     fn executed_all(&mut self, core: u16, pc: u64, count: u64) -> Result<(), NoMemory> {
         self.told = self.told.then_executed_all(&core, &pc, &count);
         Ok(())
     }
 
+    #[inline(always)]
     fn accessed(&mut self, pc: u64, entry: &Entry, leaving: Leaving) -> Result<(), NoMemory> {
         add_use(self.alloc, &mut self.uses, entry.core, &entry.request)?;
         self.told = self.told.then_accessed(&pc, entry, &leaving);

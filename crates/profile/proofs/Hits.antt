@@ -1,5 +1,5 @@
 -- A hit adds to three numbers, and changes nothing of other cores.
-use Rattle.std.proofs.Common.{◌≡◌, ℕ, ◌+◌, ◌&&◌, Bool, true, false, List, [], ◌∷◌, ◌++◌, if◌then◌else◌, map, Some, refl, sym, ◌∙◌, ap, ap₂, subst, arith, append-nil}
+use Rattle.std.proofs.Common.{◌≡◌, ℕ, ◌&&◌, Bool, true, false, List, [], ◌∷◌, ◌++◌, if◌then◌else◌, map, Some, refl, sym, ◌∙◌, ap, ap₂, subst, append-nil}
 use Rattle.std.specs.Prelude.{◌||◌, count_by}
 use Rattle.std.specs.List.{filter, range_with_len}
 use Rattle.zs_num.specs.declared.entry.Entry.{Entry}
@@ -26,14 +26,11 @@ use Rattle.profile.specs.Waits.{makers_of}
 use Rattle.profile_rows.specs.declared.tally.Tally.{Tally}
 use Rattle.profile_rows.specs.Tallies.{capped_tally, no_tally, plus}
 use Rattle.profile.proofs.PartsMore.{access_more}
-use Rattle.profile.proofs.RowsMore.{capped_sum, capped_wide_sum}
+use Rattle.profile.proofs.RowsMore.{capped_sum, capped_wide_sum, plus_zero}
 
 and_false : (b : Bool) → (b && false) ≡ false
 and_false true = refl
 and_false false = refl
-
-plus_zero : (n : ℕ) → n + 0 ≡ n
-plus_zero n = omega arith
 
 hit_is : (o : Outcome) → is_hit o ≡ true → o ≡ Hit
 hit_is Hit is = refl

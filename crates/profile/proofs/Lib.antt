@@ -37,3 +37,4 @@ pub mod WaitsAddUp
 pub mod WaitsShared
 pub mod WhoWaits
 pub mod WhyLeft
+mod MetAdds

@@ -87,6 +87,24 @@ module _ (cs : List Contribution) (c : Contribution) (addresses new_addresses li
     none_at_lines = none_line rows.none_at_lines;
   }
 
+pub plus_zero : (n : ℕ) → n + 0 ≡ n
+plus_zero n = omega arith
+
+adds_nothing : (t : Tally) → capped_tally t ≡ capped_tally (plus t no_tally)
+unfolding capped_tally plus
+adds_nothing t = simp (plus_zero) refl
+
+-- what adds nothing leaves the tables as they are
+pub none_more : (cs : List Contribution) (c : Contribution) (addresses lines : List (Sparse Tally)) → c.tally ≡ no_tally → AreRows cs addresses lines → AreRows (cs ++ c ∷ []) addresses lines
+none_more cs c addresses lines none rows =
+    rows_more cs c addresses addresses lines lines rows (λ t. t) (λ t. adds_nothing t ∙ ap (λ more. capped_tally (plus t more)) (sym none))
+    (λ core pc. as_it_was (c.core == core && is_this c.pc pc) (value_at no_tally addresses core pc)) (λ core line. as_it_was (c.core == core && c.line == line) (value_at no_tally lines core line))
+    (λ are. are) (λ are. are)
+  where
+    as_it_was : (b : Bool) (t : Tally) → t ≡ (if b then t else t)
+    as_it_was true t = refl
+    as_it_was false t = refl
+
 pub no_rows : (addresses lines : List (Sparse Tally)) → addresses ≡ [] → lines ≡ [] → AreRows [] addresses lines
 unfolding capped_tally
 no_rows addresses lines no_addresses no_lines = record {

@@ -1,12 +1,15 @@
 //! What steps add to tallies, where these are.
-ghost use Rattle.std.specs.Prelude.{◌≡◌};
-ghost use Rattle.profile.specs.Added.{with_access};
+ghost use Rattle.std.specs.Prelude.{◌≡◌, ◌&&◌};
+ghost use Rattle.profile.specs.Added.{with_access, with_changes, with_class, with_cycles, with_leave, with_outcome};
+ghost use Rattle.profile.specs.Copies.{changes_others, reads, writes};
 ghost use Rattle.profile_rows.specs.Tallies.{capped_tally, plus};
 
 use crate::contribution::Contribution;
+use crate::copies::{CopyState, Leave, changes_others, reads, writes};
+use crate::met::one_if;
 use profile_rows::Tally;
 use sparse_table::Change;
-use zs_num::Request;
+use zs_num::{Outcome, Request};
 
 /// A hit of a core's own cache, and how many cycles it takes. It adds to three numbers alone.
 #[derive(Clone, Copy)]
@@ -25,6 +28,31 @@ impl Change<Tally> for Hit {
         count_access(&self.request, value);
         value.hits = value.hits.saturating_add(1);
         value.cycles = value.cycles.saturating_add(self.cycles);
+    }
+}
+
+/// An access that does not hit: how it was met, what there was of the own copy, how many copies of
+/// other cores it took away, and how many cycles it takes. It adds to some eight numbers.
+#[derive(Clone, Copy)]
+pub(crate) struct Met {
+    pub(crate) request: Request,
+    pub(crate) outcome: Outcome,
+    pub(crate) copy: CopyState,
+    pub(crate) taken: u64,
+    pub(crate) cycles: u64,
+}
+
+impl Change<Tally> for Met {
+    ghost use Rattle.profile.specs.Added.{with_met};
+
+    ghost changed = { λ met t. with_met met t };
+
+    fn change(&self, value: &mut Tally) {
+        count_access(&self.request, value);
+        count_outcome(&self.outcome, value);
+        count_class(&self.outcome, self.copy, value);
+        count_changes(self, value);
+        count_cycles(self.cycles, value);
     }
 }
 
@@ -68,6 +96,65 @@ fn count_access(request: &Request, t: &mut Tally)
         }
         Request::Fetch { .. } => t.fetches = t.fetches.saturating_add(1),
     }
+}
+
+/// Counts it by how it was met.
+#[inline(always)]
+fn count_outcome(outcome: &Outcome, t: &mut Tally)
+    ensures { t.new ≡ with_outcome outcome.now t.old }
+{
+    match outcome {
+        Outcome::Hit => t.hits = t.hits.saturating_add(1),
+        Outcome::Upgrade { .. } => t.upgrades = t.upgrades.saturating_add(1),
+        Outcome::L2 { .. } => t.l2hits = t.l2hits.saturating_add(1),
+        Outcome::Miss { .. } => t.misses = t.misses.saturating_add(1),
+    }
+}
+
+/// Counts it by how the own copy left, where it found none.
+#[inline(always)]
+fn count_class(outcome: &Outcome, copy: CopyState, t: &mut Tally)
+    ensures { t.new ≡ with_class outcome.now copy t.old }
+{
+    match outcome {
+        Outcome::Hit | Outcome::Upgrade { .. } => {}
+        Outcome::L2 { .. } | Outcome::Miss { .. } => count_leave(copy, t),
+    }
+}
+
+/// Counts how a copy left.
+#[inline(always)]
+fn count_leave(copy: CopyState, t: &mut Tally)
+    ensures { t.new ≡ with_leave copy t.old }
+{
+    match copy {
+        CopyState::Never => t.cold = t.cold.saturating_add(1),
+        CopyState::Held => {}
+        CopyState::Gone(Leave::Coherence) => t.coherence = t.coherence.saturating_add(1),
+        CopyState::Gone(Leave::Inclusion) => t.inclusion = t.inclusion.saturating_add(1),
+        CopyState::Gone(Leave::Eviction) => t.eviction = t.eviction.saturating_add(1),
+    }
+}
+
+/// Counts what an access does to copies of other cores.
+#[inline(always)]
+fn count_changes(met: &Met, t: &mut Tally)
+    ensures { t.new ≡ with_changes (writes met.now.request && changes_others met.now.outcome) met.now.taken (reads met.now.request && changes_others met.now.outcome) t.old }
+{
+    let invalidating = one_if(writes(&met.request) && changes_others(&met.outcome));
+    let downgrading = one_if(reads(&met.request) && changes_others(&met.outcome));
+    t.invalidating = t.invalidating.saturating_add(invalidating);
+    t.invalidated = t.invalidated.saturating_add(met.taken);
+    t.downgrades = t.downgrades.saturating_add(downgrading);
+}
+
+/// Counts the cycles of an access that does not hit.
+#[inline(always)]
+fn count_cycles(cycles: u64, t: &mut Tally)
+    ensures { t.new ≡ with_cycles cycles t.old }
+{
+    t.cycles = t.cycles.saturating_add(cycles);
+    t.missing = t.missing.saturating_add(cycles);
 }
 
 /// Adds a tally to another one.

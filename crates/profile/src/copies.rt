@@ -281,7 +281,7 @@ impl Copies {
 
 /// Whether it has to be alone with the line.
 #[inline(always)]
-fn writes(request: &Request) -> bool
+pub(crate) fn writes(request: &Request) -> bool
     ensures { result ≡ writes request.now }
 {
     matches!(
@@ -292,7 +292,7 @@ fn writes(request: &Request) -> bool
 
 /// Whether it reads data.
 #[inline(always)]
-fn reads(request: &Request) -> bool
+pub(crate) fn reads(request: &Request) -> bool
     ensures { result ≡ reads request.now }
 {
     matches!(request, Request::Load { .. } | Request::Lr { .. })
@@ -300,7 +300,7 @@ fn reads(request: &Request) -> bool
 
 /// Whether copies of other cores were changed for it.
 #[inline(always)]
-fn changes_others(outcome: &Outcome) -> bool
+pub(crate) fn changes_others(outcome: &Outcome) -> bool
     ensures { result ≡ changes_others outcome.now }
 {
     match *outcome {

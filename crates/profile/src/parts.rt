@@ -1,5 +1,5 @@
 //! The parts of a profile that accesses and their events change.
-ghost use Rattle.std.specs.Prelude.{◌≡◌, ◌==◌, ◌&&◌, ◌++◌, ◌∷◌, [], ℕ, List, IfOk, OnOk, if◌then◌else◌, map, true};
+ghost use Rattle.std.specs.Prelude.{◌≡◌, ◌==◌, ◌&&◌, ◌++◌, ◌∷◌, [], ℕ, List, IfOk, OnOk, if◌then◌else◌, map, false, true};
 ghost use Rattle.zs_num.specs.declared.entry.Entry.{Entry};
 ghost use Rattle.event_graph.specs.declared.event.Event.{Event};
 ghost use Rattle.event_graph.specs.declared.fired.Fired.{Fired};
@@ -7,6 +7,7 @@ ghost use Rattle.noc_mesh.specs.NetTiming.{net_time};
 ghost use Rattle.stats.specs.Counted.{is_hit};
 ghost use Rattle.trace.specs.Trace.{Accessed, Ended, Step};
 ghost use Rattle.profile.specs.declared.contribution.Contribution.{Contribution};
+ghost use Rattle.profile.specs.Added.{Adds, with_met};
 ghost use Rattle.profile.specs.Contributions.{access_adds, wait_adds};
 ghost use Rattle.profile.specs.CopyTables.{copies_in};
 ghost use Rattle.profile.specs.Makers.{of_core, queue_at, tail};
@@ -14,17 +15,16 @@ ghost use Rattle.profile.specs.Parts.{AreParts, IsServing};
 ghost use Rattle.profile.specs.Waits.{makers_of, wait_for};
 ghost use Rattle.profile.specs.Rows.{AreRows};
 
-use crate::added::{Hit, Waited};
+use crate::added::{Hit, Met, Waited};
 use crate::contribution::Maker;
 use crate::copies::Copies;
 use crate::makers::{Queue, clear, first_of, put, take_first};
-use crate::met::{access_adds, is_hit};
+use crate::met::{is_hit, met};
 use crate::rows::Rows;
 use crate::series::wait_of;
 use crate::suffered::add_suffered;
 use event_graph::{Event, Fired};
 use noc_mesh::Net;
-use profile_rows::Tally;
 use shard::Leaving;
 use std::alloc::Global;
 use zs_num::{Entry, NoMemory};
@@ -49,7 +49,7 @@ impl Parts {
         }
     }
 
-    /// An access, for which these lines left. Answers what it counts.
+    /// An access that does not hit, for which these lines left. Answers how it was met.
     pub(crate) fn access(
         &mut self,
         alloc: Global,
@@ -58,16 +58,18 @@ impl Parts {
         pc: u64,
         entry: &Entry,
         leaving: &Leaving,
-    ) -> Result<Tally, NoMemory>
+    ) -> Result<Met, NoMemory>
+        requires { is_hit entry.now.outcome ≡ false }
         ensures parts { OnOk result ((steps : List Step) → AreParts (net_time net.now.path) cores steps self.old → AreParts (net_time net.now.path) cores (steps ++ Accessed pc entry.now leaving.now ∷ []) self.new) }
-        ensures tally { IfOk result (λ tally. tally ≡ (access_adds (net_time net.now.path) cores (copies_in self.old.copies.of_data.items self.old.copies.of_instructions.items) pc entry.now).tally) }
+        ensures met { IfOk result (λ met. Adds (with_met met) (access_adds (net_time net.now.path) cores (copies_in self.old.copies.of_data.items self.old.copies.of_instructions.items) pc entry.now).tally) }
     {
-        let adds = access_adds(net, cores, &self.copies, pc, entry);
-        self.rows.add(alloc, &adds)?;
+        let met = met(net, cores, &self.copies, entry);
+        self.rows
+            .change(alloc, entry.core, Some(pc), entry.request.line(), &met)?;
         add_suffered(alloc, &mut self.rows, cores, &self.copies, entry)?;
         self.copies.pass(alloc, entry, leaving)?;
         put_maker(alloc, &mut self.makers, pc, entry)?;
-        Ok(adds.tally)
+        Ok(met)
     }
 
     /// A hit, for which these lines left, and which takes so many cycles. It changes no copy of
@@ -121,7 +123,7 @@ impl Parts {
     }
 }
 
-/// Adds the wait of an event to the access that made it, if there is one.
+/// Adds the wait of an event to the access that made it, if there is one. Many wait for nothing.
 fn give(
     alloc: Global,
     rows: &mut Rows,
@@ -133,8 +135,10 @@ fn give(
 {
     if let Some(maker) = first {
         let cycles = wait_of(event, fired);
-        let waited = Waited { cycles };
-        rows.change(alloc, maker.core, Some(maker.pc), maker.line, &waited)?;
+        if cycles > 0 {
+            let waited = Waited { cycles };
+            rows.change(alloc, maker.core, Some(maker.pc), maker.line, &waited)?;
+        }
     }
     Ok(())
 }

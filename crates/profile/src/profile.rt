@@ -267,8 +267,8 @@ fn access(
     if is_hit(&entry.outcome) {
         hit(alloc, parts, series, net, pc, entry, leaving)?;
     } else {
-        let tally = parts.access(alloc, net, cores, pc, entry, leaving)?;
-        series.accessed(&tally);
+        let met = parts.access(alloc, net, cores, pc, entry, leaving)?;
+        series.accessed(&met);
     }
     Ok(())
 }

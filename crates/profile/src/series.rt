@@ -3,13 +3,13 @@ ghost use Rattle.std.specs.Prelude.{◌≡◌, ◌+◌, ◌<◌, ◌∷◌, [], 
 ghost use Rattle.std.specs.List.{zip};
 ghost use Rattle.event_graph.specs.declared.event.Event.{Event};
 ghost use Rattle.event_graph.specs.declared.fired.Fired.{Fired};
-ghost use Rattle.profile.specs.Added.{Adds, with_hit};
+ghost use Rattle.profile.specs.Added.{Adds, with_hit, with_met};
 ghost use Rattle.profile_rows.specs.declared.tally.Tally.{Tally};
 ghost use Rattle.profile.specs.Series.{AreSeries, IsSeries, Series, SeriesSums, capped_open, capped_sums, has_room, next_first, no_sums, nothing_open, no_series, sums_in, with_interval, with_last, with_room, with_waits};
 ghost use Rattle.profile_rows.specs.Tallies.{capped, capped_wide, plus};
 ghost use Rattle.stats.specs.Counted.{wait_of};
 
-use crate::added::{Hit, add};
+use crate::added::{Hit, Met};
 use event_graph::{Event, Fired};
 use profile_rows::{NONE, SeriesRow, Tally};
 use sparse_table::Change;
@@ -56,11 +56,11 @@ impl SeriesRows {
         self.begun.instructions = self.begun.instructions.saturating_add(count);
     }
 
-    /// An access that counts this.
-    pub(crate) fn accessed(&mut self, tally: &Tally)
-        ensures { (s : Series) → IsSeries s self.old → IsSeries (record s { begun = record s.begun { tally = plus s.begun.tally tally.now } }) self.new }
+    /// An access more that does not hit.
+    pub(crate) fn accessed(&mut self, met: &Met)
+        ensures { (s : Series) (more : Tally) → Adds (with_met met.now) more → IsSeries s self.old → IsSeries (record s { begun = record s.begun { tally = plus s.begun.tally more } }) self.new }
     {
-        add(&mut self.begun.tally, tally);
+        met.change(&mut self.begun.tally);
     }
 
     /// A hit more, which takes so many cycles.

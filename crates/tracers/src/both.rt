@@ -70,6 +70,7 @@ impl<A: Tracer, B: Tracer> Tracer for Both<A, B> {
 
     ghost fixed = { λ b. (A.fixed b.first, B.fixed b.second) };
 
+    #[inline(always)]
     fn executed(&mut self, core: u16, pc: u64) -> Result<(), NoMemory> {
         let was_whole = self.is_whole;
         self.is_whole = false;
@@ -79,6 +80,7 @@ impl<A: Tracer, B: Tracer> Tracer for Both<A, B> {
         Ok(())
     }
 
+    #[inline(always)]
     fn executed_all(&mut self, core: u16, pc: u64, count: u64) -> Result<(), NoMemory> {
         let was_whole = self.is_whole;
         self.is_whole = false;
@@ -88,6 +90,7 @@ impl<A: Tracer, B: Tracer> Tracer for Both<A, B> {
         Ok(())
     }
 
+    #[inline(always)]
     fn accessed(&mut self, pc: u64, entry: &Entry, leaving: Leaving) -> Result<(), NoMemory> {
         let was_whole = self.is_whole;
         self.is_whole = false;

@@ -1,5 +1,9 @@
-use Rattle.profile.proofs.SeriesMore.{access_more}
+use Rattle.profile.specs.Added.{with_met}
+use Rattle.profile.proofs.SeriesMore.{changed_more}
 use Rattle.profile.proofs.series.SeriesRows.accessed.Goals as goal
 
 pub returns : goal.returns
-returns c = λ s is. record { begun = access_more c.args.self.now.begun s.begun c.add.new.t c.args.tally.now is.begun c.add.ensures; rows = is.rows }
+returns c = λ s more adds is. record {
+  begun = changed_more c.args.self.now.begun s.begun c.change.new.value more (with_met c.args.met.now) adds is.begun c.change.ensures;
+  rows = is.rows;
+}
