@@ -102,7 +102,9 @@ fn push_event(events: &mut Vec<Event>, last: &mut Vec<Option<Critical>>, event: 
     }
 }
 
-/// Puts the events of an access behind those of the accesses before it. There is room for them.
+/// Puts the events of an access behind those of the accesses before it. There is room for them. Most
+/// accesses are hits, which make none.
+#[inline(always)]
 fn add_access<X: Expand>(
     events: &mut Vec<Event>,
     last: &mut Vec<Option<Critical>>,
@@ -119,9 +121,12 @@ fn add_access<X: Expand>(
     ensures last { HasLast last.new.items events.new.items }
     ensures cores { vec_len last.new ≡ vec_len last.old }
 {
+    let count = expansion.count(entry);
+    if count == 0 {
+        return;
+    }
     let base = events.len() as u32;
     let earlier = last[usize::from(entry.core)];
-    let count = expansion.count(entry);
     for place in 0..count {
         let piece = expansion.piece(entry, place);
         let position = Position {
