@@ -1,6 +1,6 @@
 -- Turns whose accesses are hits that a port serves at once, with the instructions between them.
 use Rattle.std.proofs.Common.{◌≡◌, ◌⊎◌, inl, inr, ℕ, zero, suc, ◌+◌, ◌<◌, ◌≤◌, if◌then◌else◌, Bool, true, false, not, true≢false, List, [], ◌∷◌, ◌++◌, append_assoc, length, All, Option, Some, None, refl, sym, ◌∙◌, ap, subst, arith}
-use Rattle.std.specs.Prelude.{is_none, is_some, IfSome, IsSome}
+use Rattle.std.specs.Prelude.{⊤, is_none, is_some, IfSome, IsSome}
 use Rattle.std.proofs.lemmas.Bool.{and_parts, cases_lt, eq-eqb}
 use Rattle.std.proofs.lemmas.List.{append-nil, length-append}
 use Rattle.zs_num.specs.Request.{is_fetch, line_at}
@@ -18,11 +18,11 @@ use Rattle.rv_core.specs.declared.stint.Stint.{Stint}
 use Rattle.rv_core.specs.Asked.{is_idle}
 use Rattle.rv_core.specs.CoreState.{CoreState, InProgress}
 use Rattle.rv_core.specs.Effect.{ended}
-use Rattle.rv_core.specs.Executions.{LiesIn}
+use Rattle.rv_core.specs.Executions.{LeadsTo, LiesIn}
 use Rattle.rv_core.specs.Hits.{line_of, moment_of, GoesOn, HasGoneOn, IsOnItsWay, MakesFetch, MakesHit, Moment, RunsOn}
 use Rattle.rv_core.specs.Single.{access_of, begun}
 use Rattle.rv_core.specs.Step.{answered, executed, is_free, needs_fetch}
-use Rattle.rv_core.specs.Told.{going_told, making_told, running_told, HasToldGoing, Made, Ran, Told}
+use Rattle.rv_core.specs.Told.{going_told, making_told, running_told, EndsThere, HasToldGoing, Made, Ran, Told}
 use Rattle.rv_core.proofs.Fetches.{latest-needs, never-needs}
 use Rattle.reference.specs.Ahead.{ahead}
 use Rattle.reference.specs.IntervalBounds.{latest_clock, most_accesses, most_left}
@@ -30,7 +30,7 @@ use Rattle.bound_core.specs.Met.{begun_in_time}
 use Rattle.bound_core.specs.NumberedCores.{NumberedCore}
 use Rattle.bound_core.specs.Stints.{IsStint}
 use Rattle.bound_core.specs.Taken.{Settles, TakesOne, TakesThese}
-use Rattle.bound_core.specs.ToldTurns.{told_alone, TellsTurns}
+use Rattle.bound_core.specs.ToldTurns.{behind_turns, told_alone, TellsTurns}
 use Rattle.reference.specs.TimedCore.{TimedCore, after_instruction, core_after_access, ran_to}
 use Rattle.reference.specs.Turn.{TakesTurn}
 use Rattle.reference.proofs.Accesses.{end_within, most_before, most_past, to_execute_small, unfetched_left}
@@ -41,7 +41,7 @@ use Rattle.bound_core.proofs.LedOn.{counted, led_on, none_ahead, one_on, IsThere
 use Rattle.bound_core.proofs.Meeting.{access_made, begun_stops}
 use Rattle.bound_core.proofs.TheseTurns.{settles_itself, these_more, these_on}
 use Rattle.bound_core.proofs.ToldAlone.{counted_told, led_told, none_told, taking_told, uncounted_told}
-use Rattle.bound_core.proofs.ToldTurns.{tells_more, tells_on, tells_same}
+use Rattle.bound_core.proofs.ToldTurns.{stands_behind, tells_more, tells_on, tells_same}
 use Rattle.bound_core.proofs.Turns.{took}
 
 -- ---- where the core stands
@@ -210,10 +210,25 @@ fetched_told image end time c none free early = taking_told image end (has_fetch
 
 -- ---- all the way
 
--- where a core came to that has gone on by itself, with so many accesses, from the turns' first port to the last, and what
--- is told of it
+-- where no instruction is executed, the registers and the address stay
+leads_nowhere : (line : Option ℕ) (n : ℕ) (image : MemoryImage) (registers : List ℕ) (pc : ℕ) (after : List ℕ) (pc_after : ℕ) → n ≡ 0
+    → LeadsTo line n image registers pc after pc_after → (after ≡ registers) × (pc_after ≡ pc)
+leads_nowhere line zero image registers pc after pc_after none leads = leads
+leads_nowhere line (suc n) image registers pc after pc_after none leads = absurd (omega (arith, none))
+
+-- It went on from there to here, with so many accesses, and this is told of it. Where `ends` holds, its way ends with its
+-- last access.
+record Went {Port : Type 0} (image : MemoryImage) (memory : MemoryRange) (stint : Stint) (gives : Port → (start : ℕ) → Request → Entry → Port → Type 0)
+    (core_of : Port → ℕ) (logged_of : Port → Option (List Entry)) (room_of : Port → ℕ) (made : ℕ) (before after : Moment Port) (told : List Told) (ends : Type 0) : Type 0 where
+  gone : HasGoneOn image memory stint gives core_of logged_of room_of made before after
+  is : told ≡ going_told image memory stint gives core_of logged_of made before after gone.path
+  stops : ends → EndsThere image memory stint gives core_of logged_of made before after gone.path
+
+-- Where a core came to that has gone on by itself, with so many accesses, from the turns' first port to the last, and what
+-- is told of it. Where `ends` holds, which says that its way ends with its last access, it stands behind that, if it made
+-- any and does not fetch: behind a fetch it would have taken the instruction that it fetched.
 pub record HasCome {Port : Type 0} (time : Entry → ℕ) (image : MemoryImage) (end : ℕ) (gives : Port → (start : ℕ) → Request → Entry → Port → Type 0)
-    (logged_of : Port → Option (List Entry)) (number made count : ℕ) (told : List Told) (first last : Port) (before after : TimedCore) : Type 0 where
+    (logged_of : Port → Option (List Entry)) (number made count : ℕ) (told : List Told) (ends : Type 0) (first last : Port) (before after : TimedCore) : Type 0 where
   pub entries : List Entry
   pub many : length entries ≡ made
   pub these : TakesThese time image end gives logged_of number entries first last before after
@@ -222,6 +237,7 @@ pub record HasCome {Port : Type 0} (time : Entry → ℕ) (image : MemoryImage) 
   pub later : before.clock + count ≤ after.clock
   pub in_time : after.clock ≤ end
   pub latest : latest_clock end after ≤ latest_clock end before
+  pub stops : 0 < made → before.core.fetching ≡ false → ends → after ≡ behind_turns time image end entries before
 
 -- `c` is the core at the beginning, of this number, which has no pipeline and no instruction in progress
 module _ {Port : Type 0} (time : Entry → ℕ) (image : MemoryImage) (memory : MemoryRange) (stint : Stint)
@@ -230,8 +246,8 @@ module _ {Port : Type 0} (time : Entry → ℕ) (image : MemoryImage) (memory : 
     (hit_time : (e : Entry) → e.outcome ≡ Hit → is_fetch e.request ≡ false → time e ≡ stint.hit)
     (fetch_time : (e : Entry) → e.outcome ≡ Hit → is_fetch e.request ≡ true → time e ≡ stint.fetch_hit)
     (takes_time : (e : Entry) → 1 ≤ time e) where
-  -- the core has come to a moment by so many accesses, and this is told of it
-  pub record Comes (accesses : ℕ) (m : Moment Port) (told : List Told) : Type 0 where
+  -- the core has come to a moment by so many accesses, and this is told of it, and where it stands if its way `ends` there
+  pub record Comes (accesses : ℕ) (m : Moment Port) (told : List Told) (ends : Type 0) : Type 0 where
     pub entries : List Entry
     pub many : length entries ≡ accesses
     pub these : TakesThese time image stint.end gives logged_of number entries first m.port c (stands c m)
@@ -241,6 +257,7 @@ module _ {Port : Type 0} (time : Entry → ℕ) (image : MemoryImage) (memory : 
     pub later : c.clock + m.count ≤ m.clock
     pub lined : IsLined c.core.fetching m.line
     pub core : core_of m.port ≡ number
+    pub stops : 0 < accesses → c.core.fetching ≡ false → ends → stands c m ≡ behind_turns time image stint.end entries c
 
   free : is_free c.core ≡ true
   free = (idle_parts c.core idle).0
@@ -254,9 +271,21 @@ module _ {Port : Type 0} (time : Entry → ℕ) (image : MemoryImage) (memory : 
   one_longer : (n : ℕ) (entries : List Entry) (e : Entry) → length entries ≡ n → length (entries ++ e ∷ []) ≡ suc n
   one_longer n entries e many = let longer : length (entries ++ e ∷ []) ≡ length entries + 1 = length-append entries (e ∷ []) in omega (arith, longer, many)
 
-  comes_on : (n : ℕ) (before after : Moment Port) (told : List Told) (r : RunsOn image memory stint gives core_of logged_of before after) → Comes n before told
-      → Comes n after (told ++ running_told image memory stint gives core_of logged_of before after r)
-  comes_on n before after told r here =
+  -- where these are no instructions, the core stands where it stood
+  none_ran : (before after : Moment Port) (r : RunsOn image memory stint gives core_of logged_of before after) → r.instructions ≡ 0 → stands c after ≡ stands c before
+  none_ran before after r none =
+      let (registers, pc) = leads_nowhere before.line r.instructions image before.registers before.pc after.registers after.pc none r.leads in
+      let clock : after.clock ≡ before.clock = let was = r.clock in omega (arith, was, none) in
+      let count : after.count ≡ before.count = let was = r.count in omega (arith, was, none) in
+      ap (λ r. standing c r after.pc after.line after.clock after.count) registers
+      ∙ ap (λ p. standing c before.registers p after.line after.clock after.count) pc
+      ∙ ap (λ l. standing c before.registers before.pc l after.clock after.count) r.line
+      ∙ ap (λ k. standing c before.registers before.pc before.line k after.count) clock
+      ∙ ap (λ i. standing c before.registers before.pc before.line before.clock i) count
+
+  comes_on : (n : ℕ) (before after : Moment Port) (told : List Told) (ends : Type 0) (r : RunsOn image memory stint gives core_of logged_of before after) → (0 < n → ends → r.instructions ≡ 0)
+      → Comes n before told ⊤ → Comes n after (told ++ running_told image memory stint gives core_of logged_of before after r) ends
+  comes_on n before after told ends r ends_here here =
       let now : TimedCore = stands c before in
       let next : TimedCore = stands c after in
       let At : Option ℕ → ℕ → ℕ → TimedCore = λ line clock instructions. record c {
@@ -295,10 +324,11 @@ module _ {Port : Type 0} (time : Entry → ℕ) (image : MemoryImage) (memory : 
         later = omega (arith, here.later, r.clock, r.count);
         lined = subst (IsLined c.core.fetching) (sym r.line) here.lined;
         core = ap core_of r.port ∙ here.core;
+        stops = λ some plain so. none_ran before after r (ends_here some so) ∙ here.stops some plain tt;
       }
 
-  comes_by_hit : (n : ℕ) (before after : Moment Port) (told : List Told) → MakesHit image memory stint gives core_of logged_of before after → Comes n before told
-      → Comes (suc n) after (told ++ Ran before.pc ∷ Made before.pc ∷ [])
+  comes_by_hit : (n : ℕ) (before after : Moment Port) (told : List Told) {ends : Type 0} → MakesHit image memory stint gives core_of logged_of before after → Comes n before told ends
+      → Comes (suc n) after (told ++ Ran before.pc ∷ Made before.pc ∷ []) ⊤
   comes_by_hit n before after told h here =
       let now : TimedCore = stands c before in
       let next : TimedCore = stands c after in
@@ -354,14 +384,15 @@ module _ {Port : Type 0} (time : Entry → ℕ) (image : MemoryImage) (memory : 
         later = omega (arith, here.later, h.clock, h.count);
         lined = subst (IsLined c.core.fetching) (sym h.line) here.lined;
         core = served.same ∙ here.core;
+        stops = λ some plain so. stands_behind time image stint.end gives logged_of number here.entries e first before.port c now ran next here.these ran_is left;
       }
 
   fetches_by : (fetching : Bool) (line : Option ℕ) (latest : ℕ) → IsLined fetching line → line ≡ Some latest → fetching ≡ true
   fetches_by true line latest lined had = refl
   fetches_by false line latest lined had = let no : line ≡ None = lined.none refl in cc
 
-  comes_by_fetch : (n : ℕ) (before after : Moment Port) (told : List Told) → MakesFetch image memory stint gives core_of logged_of before after → Comes n before told
-      → Comes (suc n) after (told ++ Made before.pc ∷ [])
+  comes_by_fetch : (n : ℕ) (before after : Moment Port) (told : List Told) {ends : Type 0} → MakesFetch image memory stint gives core_of logged_of before after → Comes n before told ends
+      → Comes (suc n) after (told ++ Made before.pc ∷ []) ⊤
   comes_by_fetch n before after told h here =
       let now : TimedCore = stands c before in
       let next : TimedCore = stands c after in
@@ -433,23 +464,25 @@ module _ {Port : Type 0} (time : Entry → ℕ) (image : MemoryImage) (memory : 
         later = omega (arith, here.later, h.clock, h.count);
         lined = record { some = λ yes. ap is_some h.line; none = λ no. absurd (true≢false (sym fetching ∙ no)) };
         core = served.same ∙ here.core;
+        stops = λ some plain so. absurd (true≢false (sym fetching ∙ plain));
       }
 
-  comes_by : (n : ℕ) (before after : Moment Port) (told : List Told) (made : MakesHit image memory stint gives core_of logged_of before after ⊎ MakesFetch image memory stint gives core_of logged_of before after)
-      → Comes n before told → Comes (suc n) after (told ++ making_told image memory stint gives core_of logged_of before after made)
+  comes_by : (n : ℕ) (before after : Moment Port) (told : List Told) {ends : Type 0} (made : MakesHit image memory stint gives core_of logged_of before after ⊎ MakesFetch image memory stint gives core_of logged_of before after)
+      → Comes n before told ends → Comes (suc n) after (told ++ making_told image memory stint gives core_of logged_of before after made) ⊤
   comes_by n before after told (inl hit) here = comes_by_hit n before after told hit here
   comes_by n before after told (inr fetch) here = comes_by_fetch n before after told fetch here
 
-  comes : (n : ℕ) (before after : Moment Port) (path : GoesOn image memory stint gives core_of logged_of n before after) → Comes 0 before []
-      → Comes n after (going_told image memory stint gives core_of logged_of n before after path)
-  comes zero before after runs here = comes_on 0 before after [] runs here
+  comes : (n : ℕ) (before after : Moment Port) (path : GoesOn image memory stint gives core_of logged_of n before after) → Comes 0 before [] ⊤
+      → Comes n after (going_told image memory stint gives core_of logged_of n before after path) (EndsThere image memory stint gives core_of logged_of n before after path)
+  comes zero before after runs here = comes_on 0 before after [] ⊤ runs (λ some so. absurd (omega (arith, some))) here
   comes (suc n) before after (s, (t, (path, (made, runs)))) here =
       let told : List Told = going_told image memory stint gives core_of logged_of n before s path in
       let access : List Told = making_told image memory stint gives core_of logged_of s t made in
-      let there : Comes (suc n) t (told ++ access) = comes_by n s t told made (comes n before s path here) in
-      subst (Comes (suc n) after) (append_assoc told access (running_told image memory stint gives core_of logged_of t after runs)) (comes_on (suc n) t after (told ++ access) runs there)
+      let there : Comes (suc n) t (told ++ access) ⊤ = comes_by n s t told made (comes n before s path here) in
+      subst (λ (l : List Told). Comes (suc n) after l (runs.instructions ≡ 0)) (append_assoc told access (running_told image memory stint gives core_of logged_of t after runs))
+      (comes_on (suc n) t after (told ++ access) (runs.instructions ≡ 0) runs (λ some none. none) there)
 
-  comes_first : IsLined c.core.fetching (line_of c.core) → core_of first ≡ number → c.clock ≤ stint.end → Comes 0 (moment_of c.core c.clock 0 first) []
+  comes_first : IsLined c.core.fetching (line_of c.core) → core_of first ≡ number → c.clock ≤ stint.end → Comes 0 (moment_of c.core c.clock 0 first) [] ⊤
   comes_first lined core in_time =
       let m : Moment Port = moment_of c.core c.clock 0 first in
       let is : c ≡ stands c m = sym (stands_first c) in
@@ -463,22 +496,23 @@ module _ {Port : Type 0} (time : Entry → ℕ) (image : MemoryImage) (memory : 
         later = omega arith;
         lined = lined;
         core = core;
+        stops = λ some plain so. sym is;
       }
 
-  pub has_come : (room_of : Port → ℕ) (made : ℕ) (told : List Told) (after : CoreState) (clock count : ℕ) (last : Port) → IsOnItsWay c.core after → (c.core.fetching ≡ true → IsSome c.core.fetched_line)
+  has_come : (room_of : Port → ℕ) (made : ℕ) (told : List Told) (ends : Type 0) (after : CoreState) (clock count : ℕ) (last : Port) → IsOnItsWay c.core after → (c.core.fetching ≡ true → IsSome c.core.fetched_line)
       → core_of first ≡ number → c.clock ≤ stint.end
-      → HasToldGoing image memory stint gives core_of logged_of room_of made (moment_of c.core c.clock 0 first) (moment_of after clock count last) told
-      → HasCome time image stint.end gives logged_of number made count told first last c (record c { core = after; clock = clock; instructions = c.instructions + count })
-  has_come room_of made told after clock count last way fetched core in_time going =
+      → Went image memory stint gives core_of logged_of room_of made (moment_of c.core c.clock 0 first) (moment_of after clock count last) told ends
+      → HasCome time image stint.end gives logged_of number made count told ends first last c (record c { core = after; clock = clock; instructions = c.instructions + count })
+  has_come room_of made told ends after clock count last way fetched core in_time went =
       let next : TimedCore = record c { core = after; clock = clock; instructions = c.instructions + count } in
       let m : Moment Port = moment_of after clock count last in
-      let came = comes made (moment_of c.core c.clock 0 first) m going.gone.path (comes_first (first_lined c.core.fetching c.core.fetched_line fetched) core in_time) in
+      let came = comes made (moment_of c.core c.clock 0 first) m went.gone.path (comes_first (first_lined c.core.fetching c.core.fetched_line fetched) core in_time) in
       let fetching : after.fetching ≡ c.core.fetching = ap (λ (core : CoreState). core.fetching) way in
       let At : Option ℕ → CoreState = λ line. record c.core { registers = after.registers; pc = after.pc; fetched_line = line } in
       let is : stands c m ≡ next =
       ap (λ core. record c { core = core; clock = clock; instructions = c.instructions + count }) (ap At (line_same c.core.fetching after.fetching after.fetched_line c.core.fetched_line fetching) ∙ sym way) in
       let tells : TellsTurns time image stint.end told came.entries c (stands c m) =
-      subst (λ (l : List Told). TellsTurns time image stint.end l came.entries c (stands c m)) (sym going.is) came.tells in
+      subst (λ (l : List Told). TellsTurns time image stint.end l came.entries c (stands c m)) (sym went.is) came.tells in
       record {
         entries = came.entries;
         many = came.many;
@@ -488,6 +522,7 @@ module _ {Port : Type 0} (time : Entry → ℕ) (image : MemoryImage) (memory : 
         later = came.later;
         in_time = came.in_time;
         latest = subst (λ t. latest_clock stint.end t ≤ latest_clock stint.end c) is (idle_latest stint.end c (stands c m) (idle_left c.core idle) came.in_time);
+        stops = λ some plain so. sym is ∙ came.stops some plain (went.stops so);
       }
 
 -- ---- by what the code knows
@@ -498,24 +533,32 @@ none_soon None clock none = tt
 none_soon (Some pace) clock none = cc
 
 -- A core went on by itself from `now`, which is how the code keeps `before`. It has come there, and this is told of it.
-pub told_on : {Port : Type 0} {image : MemoryImage} {stint : Stint} {gives : Port → (start : ℕ) → Request → Entry → Port → Type 0} {core_of : Port → ℕ} {logged_of : Port → Option (List Entry)} {room_of : Port → ℕ} {made end : ℕ} {told : List Told}
+went_on : {Port : Type 0} {image : MemoryImage} {stint : Stint} {gives : Port → (start : ℕ) → Request → Entry → Port → Type 0} {core_of : Port → ℕ} {logged_of : Port → Option (List Entry)} {room_of : Port → ℕ} {made end : ℕ} {told : List Told} {ends : Type 0}
     {now before : NumberedCore} (time : Entry → ℕ) (first last : Port) (after : CoreState) (clock count : ℕ) → now ≡ before → IsStint time end before.timed stint → core_of first ≡ before.number → IsOnItsWay now.timed.core after
-    → HasToldGoing image now.timed.core.memory stint gives core_of logged_of room_of made (moment_of now.timed.core stint.clock 0 first) (moment_of after clock count last) told
-    → HasCome time image end gives logged_of before.number made count told first last before.timed (record now.timed { core = after; clock = clock; instructions = now.timed.instructions + count })
-told_on {image = image} {stint = stint} {gives = gives} {core_of = core_of} {logged_of = logged_of} {room_of = room_of} {made = made} {end = end} {told = told} {now = now} {before = before} time first last after clock count is may_before core way going =
+    → Went image now.timed.core.memory stint gives core_of logged_of room_of made (moment_of now.timed.core stint.clock 0 first) (moment_of after clock count last) told ends
+    → HasCome time image end gives logged_of before.number made count told ends first last before.timed (record now.timed { core = after; clock = clock; instructions = now.timed.instructions + count })
+went_on {image = image} {stint = stint} {gives = gives} {core_of = core_of} {logged_of = logged_of} {room_of = room_of} {made = made} {end = end} {told = told} {ends = ends} {now = now} {before = before} time first last after clock count is may_before core way went =
     let c : TimedCore = now.timed in
     let may : IsStint time end c stint = subst (λ (n : NumberedCore). IsStint time end n.timed stint) (sym is) may_before in
     let within : Stint = record stint { clock = c.clock; end = end } in
     let next : TimedCore = record c { core = after; clock = clock; instructions = c.instructions + count } in
-    subst (λ (n : NumberedCore). HasCome time image end gives logged_of before.number made count told first last n.timed next) is
-    (has_come time image c.core.memory within gives core_of logged_of before.number first c may.none may.idle refl may.hit may.fetch_hit may.takes_time room_of made told after clock count last way may.fetched core (omega (arith, may.early))
-    (subst (λ (s : Stint). HasToldGoing image c.core.memory s gives core_of logged_of room_of made (moment_of c.core s.clock 0 first) (moment_of after clock count last) told) may.within going))
+    subst (λ (n : NumberedCore). HasCome time image end gives logged_of before.number made count told ends first last n.timed next) is
+    (has_come time image c.core.memory within gives core_of logged_of before.number first c may.none may.idle refl may.hit may.fetch_hit may.takes_time room_of made told ends after clock count last way may.fetched core (omega (arith, may.early))
+    (subst (λ (s : Stint). Went image c.core.memory s gives core_of logged_of room_of made (moment_of c.core s.clock 0 first) (moment_of after clock count last) told ends) may.within went))
 
--- the same, whatever is told
+-- its way ends with its last access where it made as many as it might
+pub told_on : {Port : Type 0} {image : MemoryImage} {stint : Stint} {gives : Port → (start : ℕ) → Request → Entry → Port → Type 0} {core_of : Port → ℕ} {logged_of : Port → Option (List Entry)} {room_of : Port → ℕ} {made end : ℕ} {told : List Told}
+    {now before : NumberedCore} (time : Entry → ℕ) (first last : Port) (after : CoreState) (clock count : ℕ) → now ≡ before → IsStint time end before.timed stint → core_of first ≡ before.number → IsOnItsWay now.timed.core after
+    → HasToldGoing image now.timed.core.memory stint gives core_of logged_of room_of made (moment_of now.timed.core stint.clock 0 first) (moment_of after clock count last) told
+    → HasCome time image end gives logged_of before.number made count told (made ≡ stint.accesses) first last before.timed (record now.timed { core = after; clock = clock; instructions = now.timed.instructions + count })
+told_on time first last after clock count is may core way going =
+    went_on time first last after clock count is may core way (record { gone = going.gone; is = going.is; stops = going.stops })
+
+-- the same, whatever is told, and wherever its way ends
 pub came_on : {Port : Type 0} {image : MemoryImage} {stint : Stint} {gives : Port → (start : ℕ) → Request → Entry → Port → Type 0} {core_of : Port → ℕ} {logged_of : Port → Option (List Entry)} {room_of : Port → ℕ} {made end : ℕ}
     {now before : NumberedCore} (time : Entry → ℕ) (first last : Port) (after : CoreState) (clock count : ℕ) → now ≡ before → IsStint time end before.timed stint → core_of first ≡ before.number → IsOnItsWay now.timed.core after
     → HasGoneOn image now.timed.core.memory stint gives core_of logged_of room_of made (moment_of now.timed.core stint.clock 0 first) (moment_of after clock count last)
-    → (told : List Told) × HasCome time image end gives logged_of before.number made count told first last before.timed (record now.timed { core = after; clock = clock; instructions = now.timed.instructions + count })
+    → (told : List Told) × HasCome time image end gives logged_of before.number made count told ⊥ first last before.timed (record now.timed { core = after; clock = clock; instructions = now.timed.instructions + count })
 came_on {image = image} {stint = stint} {gives = gives} {core_of = core_of} {logged_of = logged_of} {made = made} {now = now} time first last after clock count is may core way gone =
     let told : List Told = going_told image now.timed.core.memory stint gives core_of logged_of made (moment_of now.timed.core stint.clock 0 first) (moment_of after clock count last) gone.path in
-    (told, told_on {told = told} time first last after clock count is may core way (record { gone = gone; is = refl }))
+    (told, went_on {told = told} time first last after clock count is may core way (record { gone = gone; is = refl; stops = λ never. absurd never }))

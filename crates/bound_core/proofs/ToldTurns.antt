@@ -52,6 +52,13 @@ module _ (time : Entry → ℕ) (image : MemoryImage) (end : ℕ) where
     turns_ran (e ∷ entries) port last before after (next, (core, (one, these))) =
         turns_ran entries next last core after these ∙ ap (λ (c : TimedCore). ran_to image end (behind_turns time image end entries c)) one.turn.left
 
+    -- a core behind a turn more is behind that turn and those before it
+    pub stands_behind : (entries : List Entry) (e : Entry) (port last : Port) (before now ran after : TimedCore)
+        → TakesThese time image end gives logged_of number entries port last before now → ran ≡ ran_to image end now → after ≡ core_after_access time e ran
+        → after ≡ behind_turns time image end (entries ++ e ∷ []) before
+    stands_behind entries e port last before now ran after these is left =
+        left ∙ ap (core_after_access time e) (is ∙ turns_ran entries port last before now these) ∙ sym (behind_more entries e before)
+
     -- the instructions of a turn behind them, and its access
     pub tells_more : (told here : List Told) (entries : List Entry) (e : Entry) (port last : Port) (before now ran after : TimedCore)
         → TakesThese time image end gives logged_of number entries port last before now → TellsTurns time image end told entries before now
@@ -68,7 +75,6 @@ module _ (time : Entry → ℕ) (image : MemoryImage) (end : ℕ) where
         ∙ ap (λ (l : List Told). l ++ made) tells
         ∙ ap (λ (t : TimedCore). whole ++ Made t.core.pc ∷ []) ran_is
         ∙ sym (told_more entries e before) in
-        let after_is : after ≡ behind_turns time image end (entries ++ e ∷ []) before =
-        left ∙ ap (core_after_access time e) ran_is ∙ sym (behind_more entries e before) in
+        let after_is : after ≡ behind_turns time image end (entries ++ e ∷ []) before = stands_behind entries e port last before now ran after these is left in
         ap (λ (l : List Told). l ++ told_alone image end after) all_told
         ∙ ap (λ (t : TimedCore). told_by_turns time image end (entries ++ e ∷ []) before ++ told_alone image end t) after_is

@@ -336,7 +336,8 @@ impl BoundCore {
     }
 
     /// The same, and it tells where the core went: the legs of its way come behind those that are
-    /// there, as long as there is room for them. Only a core without a pipeline goes on so.
+    /// there, as long as there is room for them. Only a core that neither has a pipeline nor fetches
+    /// goes on so. Where it took `most` turns, and these are not 0, it stands behind the last one.
     #[inline(always)]
     pub fn take_told_hits<P: Program, X: Expand, Q: Port>(
         &mut self,
@@ -355,7 +356,7 @@ impl BoundCore {
         requires clock { self.old.timed.clock ≤ 2 ^ 61 }
         requires end { end ≤ 2 ^ 61 }
         ensures few { result ≤ most }
-        ensures told { TakesTold (X.time expansion.now) (P.image program.now) end Q.gives Q.logged self.old.number result way.old.items way.new.items port.old port.new self.old.timed self.new.timed }
+        ensures told { TakesTold (X.time expansion.now) (P.image program.now) end Q.gives Q.logged self.old.number most result way.old.items way.new.items port.old port.new self.old.timed self.new.timed }
         ensures begun { self.old.timed.clock ≤ self.new.timed.clock }
         ensures within { self.new.timed.clock ≤ max self.old.timed.clock end }
         ensures latest { latest_clock end self.new.timed ≤ latest_clock end self.old.timed }
@@ -369,7 +370,7 @@ impl BoundCore {
         ensures port_l1i { Q.l1i port.new ≡ Q.l1i port.old }
         ensures port_room { Q.room port.old ≤ Q.room port.new + result }
     {
-        if self.may_go_on(end) {
+        if self.may_tell(end) {
             let stint = self.stint(expansion, end, most);
             let came = self.core.run_told_hits(program, &stint, port, way);
             self.clock = came.clock;
@@ -437,6 +438,19 @@ impl BoundCore {
         ensures line { IsTrue result → IsTrue self.now.timed.core.fetching → IsSome self.now.timed.core.fetched_line }
     {
         self.clock < end && self.pace.is_none() && self.core.may_go_on()
+    }
+
+    /// Whether the core may go on so and tell where it goes: only one that does not fetch does. One
+    /// that goes on by itself takes the instruction that it fetched, and so it would not stand right
+    /// behind the fetch.
+    #[inline(always)]
+    fn may_tell(&self, end: Cycle) -> bool
+        ensures early { IsTrue result → self.now.timed.clock < end }
+        ensures pace { IsTrue result → self.now.timed.pace ≡ None }
+        ensures idle { IsTrue result → IsTrue (is_idle self.now.timed.core) }
+        ensures plain { IsTrue result → self.now.timed.core.fetching ≡ false }
+    {
+        self.may_go_on(end) && !self.core.is_fetching()
     }
 
     /// How long it goes on by itself: to the end of the interval, with `most` accesses at most.

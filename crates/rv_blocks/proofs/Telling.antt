@@ -9,7 +9,7 @@ use Rattle.rv_core.specs.declared.memory_range.MemoryRange.{MemoryRange}
 use Rattle.rv_core.specs.declared.stint.Stint.{Stint}
 use Rattle.rv_core.specs.Executions.{Leads, LiesIn}
 use Rattle.rv_core.specs.Hits.{GoesOn, HasGoneOn, MakesHit, Moment, RunsOn}
-use Rattle.rv_core.specs.Told.{going_told, leg_told, making_told, running_told, stretch_told, told_of, HasToldGoing, Told, Made, Ran}
+use Rattle.rv_core.specs.Told.{going_told, leg_told, making_told, running_told, stretch_told, told_of, EndsThere, HasToldGoing, Told, Made, Ran}
 use Rattle.rv_blocks.specs.declared.hits.Left.{Left}
 use Rattle.rv_blocks.specs.declared.slot.Slot.{Slot}
 use Rattle.rv_blocks.specs.Coming.{moment_at}
@@ -56,6 +56,9 @@ module _ {Port : Type 0} (image : MemoryImage) (memory : MemoryRange) (stint : S
 
   abbrev told_going : (n : ℕ) → (there here : Moment Port) → Goes n there here → List Told
   told_going n there here path = going_told image memory stint gives core_of logged_of n there here path
+
+  abbrev Ends : (n : ℕ) → (there here : Moment Port) → Goes n there here → Type 0
+  Ends n there here path = EndsThere image memory stint gives core_of logged_of n there here path
 
   abbrev Has : (before after : ℕ) (there here : Moment Port) (legs legs_after : List Leg) (untold : List Told) → Type 0
   Has before after there here legs legs_after untold = HasTold image memory stint gives core_of logged_of room_of before after there here legs legs_after untold
@@ -118,9 +121,15 @@ module _ {Port : Type 0} (image : MemoryImage) (memory : MemoryRange) (stint : S
   adds legs legs_after untold told more all is same =
       sym (append_assoc (told_of legs_after) untold more) ∙ ap (λ l. l ++ more) is ∙ append_assoc (told_of legs) told more ∙ ap (λ l. told_of legs ++ l) (sym same)
 
-  has_more : (before after : ℕ) (there here last : Moment Port) (legs legs_after : List Leg) (untold : List Told) → Has before after there here legs legs_after untold → IsNext here last
+  -- where it made no access, it need not end with one
+  ends_without : (n : ℕ) (there here : Moment Port) (path : Goes n there here) → n ≡ 0 → Ends n there here path
+  ends_without zero there here path none = tt
+  ends_without (suc n) there here path none = absurd (omega (arith, none))
+
+  -- where it might make none from the start, if it may make none more: so it does not go on behind its last one
+  has_more : (before after : ℕ) (there here last : Moment Port) (legs legs_after : List Leg) (untold : List Told) → Has before after there here legs legs_after untold → (after ≡ 0 → before ≡ 0) → IsNext here last
       → Has before after there last legs legs_after (untold ++ Ran here.pc ∷ [])
-  has_more before after there here last legs legs_after untold has next =
+  has_more before after there here last legs legs_after untold has ended next =
       let come = has.come in
       record {
         come = record {
@@ -130,6 +139,7 @@ module _ {Port : Type 0} (image : MemoryImage) (memory : MemoryRange) (stint : S
           path = goes_more come.made there here last come.path next;
         };
         is = adds legs legs_after untold (told_going come.made there here come.path) (Ran here.pc ∷ []) _ has.is (told_more come.made there here last come.path next);
+        stops = λ none. ends_without come.made there last (goes_more come.made there here last come.path next) (omega (arith, come.few, none, ended none));
       }
 
   -- ---- an access more
@@ -148,6 +158,7 @@ module _ {Port : Type 0} (image : MemoryImage) (memory : MemoryRange) (stint : S
           path = (here, (last, (come.path, (inl hit, stands))));
         };
         is = adds legs legs_after untold (told_going come.made there here come.path) (Ran here.pc ∷ Made here.pc ∷ []) _ has.is refl;
+        stops = λ none. refl;
       }
 
   -- ---- what is told of it
@@ -158,23 +169,24 @@ module _ {Port : Type 0} (image : MemoryImage) (memory : MemoryRange) (stint : S
   has_leg before after there here legs legs_now legs_after leg untold pc place has same told = record {
     come = has.come;
     is = ap (λ l. told_of legs_after ++ l) (stretch_none pc place) ∙ append-nil (told_of legs_after) ∙ told ∙ ap (λ l. told_of legs_now ++ l) same ∙ has.is;
+    stops = has.stops;
   }
 
   module _ (first : ℕ) (from place : ℕ) (reached : from ≤ place) (before after : ℕ) (there : Moment Port) (legs legs_now : List Leg) where
     -- a leg goes on
-    pub has_on : (here last : Moment Port) → here.pc ≡ first + 4 * place → Has before after there here legs legs_now (stretch_told (first + 4 * from) (place - from)) → IsNext here last
+    pub has_on : (here last : Moment Port) → here.pc ≡ first + 4 * place → Has before after there here legs legs_now (stretch_told (first + 4 * from) (place - from)) → (after ≡ 0 → before ≡ 0) → IsNext here last
         → Has before after there last legs legs_now (stretch_told (first + 4 * from) (place + 1 - from))
-    has_on here last stands has next =
+    has_on here last stands has ended next =
         let P : List Told → Type 0 = λ l. Has before after there last legs legs_now l in
-        let more = has_more before after there here last legs legs_now (stretch_told (first + 4 * from) (place - from)) has next in
+        let more = has_more before after there here last legs legs_now (stretch_told (first + 4 * from) (place - from)) has ended next in
         subst P (ap (λ p. stretch_told (first + 4 * from) (place - from) ++ Ran p ∷ []) stands ∙ stretch_more first from place reached) more
 
     -- it ends by a jump
-    pub has_to : (here last : Moment Port) → here.pc ≡ first + 4 * place → Has before after there here legs legs_now (stretch_told (first + 4 * from) (place - from)) → IsNext here last
+    pub has_to : (here last : Moment Port) → here.pc ≡ first + 4 * place → Has before after there here legs legs_now (stretch_told (first + 4 * from) (place - from)) → (after ≡ 0 → before ≡ 0) → IsNext here last
         → (legs_after : List Leg) (pc next : ℕ) → told_of legs_after ≡ told_of legs_now ++ leg_told (record { pc = first + 4 * from; count = place + 1 - from; made = false })
         → Has before after there last legs legs_after (stretch_told pc (next - next))
-    has_to here last stands has next legs_after pc place_after told =
-        has_leg before after there last legs legs_now legs_after (record { pc = first + 4 * from; count = place + 1 - from; made = false }) _ pc place_after (has_on here last stands has next) (append-nil (stretch_told (first + 4 * from) (place + 1 - from))) told
+    has_to here last stands has ended next legs_after pc place_after told =
+        has_leg before after there last legs legs_now legs_after (record { pc = first + 4 * from; count = place + 1 - from; made = false }) _ pc place_after (has_on here last stands has ended next) (append-nil (stretch_told (first + 4 * from) (place + 1 - from))) told
 
     -- it ends by an access
     pub has_served : (here last : Moment Port) → here.pc ≡ first + 4 * place → Has before after there here legs legs_now (stretch_told (first + 4 * from) (place - from))
@@ -205,7 +217,7 @@ module _ {Port : Type 0} (image : MemoryImage) (memory : MemoryRange) (stint : S
       let come = has.come in
       let told = told_going come.made before after come.path in
       let all : come.made ≡ stint.accesses - left = omega (arith, come.few) in
-      let P : ℕ → Type 0 = λ n. (path : Goes n before after) × (told ≡ told_going n before after path) in
-      let same : P (stint.accesses - left) = subst P all (come.path, refl) in
+      let P : ℕ → Type 0 = λ n. (path : Goes n before after) × ((told ≡ told_going n before after path) × (left ≡ 0 → Ends n before after path)) in
+      let same : P (stint.accesses - left) = subst P all (come.path, (refl, has.stops)) in
       let gone : HasGoneOn image memory stint gives core_of logged_of room_of (stint.accesses - left) before after = record { few = omega arith; room = omega (arith, all, come.room); path = same.0 } in
-      (told, record { gone = gone; is = same.1 }, sym (append-nil (told_of legs_after)) ∙ has.is)
+      (told, record { gone = gone; is = same.1.0; stops = λ made. same.1.1 (omega (arith, come.few, made)) }, sym (append-nil (told_of legs_after)) ∙ has.is)

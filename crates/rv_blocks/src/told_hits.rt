@@ -26,7 +26,8 @@ struct ByTelling;
 
 /// Executes instructions, each of which takes a cycle, from the one of the slot at a place on, and
 /// loads and stores that the port serves at once. The legs of its way come behind those that are
-/// there. It stops where there is no room for a leg more.
+/// there. It stops where there is no room for a leg more, and where it made as many accesses as it
+/// may, if any, it stops with the last one.
 #[inline(always)]
 pub fn by_told_hits<Q: Port>(
     image: &Image,
@@ -65,7 +66,7 @@ pub fn by_told_hits<Q: Port>(
 }
 
 /// Goes on as long as there is time, and room for a leg more, and tells each leg that a jump or an
-/// access ended.
+/// access ended. It stops with the last access that it may make, if it may make any.
 #[inline(always)]
 fn by_legs<Q: Port>(
     image: &Image,
@@ -142,7 +143,7 @@ fn by_legs<Q: Port>(
                 here.left.cycles -= 1 + stint.hit;
                 here.place += 1;
                 from = here.place;
-                if room == 0 {
+                if room == 0 || here.left.accesses == 0 {
                     break 'next;
                 }
             }

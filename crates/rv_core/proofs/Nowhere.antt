@@ -27,4 +27,4 @@ told_nowhere image memory stint gives core_of logged_of room_of way made before 
       in_time = omega (arith, clock, in_time);
     } in
     subst (λ n. (told : List Told) × HasToldGoing image memory stint gives core_of logged_of room_of n before after told × (told_of way ≡ told_of way ++ told)) (sym none)
-    ([], record { gone = record { few = omega arith; room = subst (λ p. room_of before.port ≤ room_of p + 0) (sym port) (omega arith); path = runs }; is = refl }, sym (append-nil (told_of way)))
+    ([], record { gone = record { few = omega arith; room = subst (λ p. room_of before.port ≤ room_of p + 0) (sym port) (omega arith); path = runs }; is = refl; stops = λ all. tt }, sym (append-nil (told_of way)))

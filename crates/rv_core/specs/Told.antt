@@ -1,5 +1,5 @@
 -- What is told of a core that goes on by itself: its instructions, and which of them made accesses.
-use Rattle.std.specs.Prelude.{◌≡◌, ◌+◌, ◌-◌, ◌*◌, ◌⊎◌, ℕ, zero, suc, if◌then◌else◌, List, [], ◌∷◌, ◌++◌, flat_map, Option}
+use Rattle.std.specs.Prelude.{⊤, ◌≡◌, ◌+◌, ◌-◌, ◌*◌, ◌⊎◌, ℕ, zero, suc, if◌then◌else◌, List, [], ◌∷◌, ◌++◌, flat_map, Option}
 use Rattle.std.proofs.Common.{inl, inr}
 use Rattle.zs_num.specs.declared.entry.Entry.{Entry}
 use Rattle.zs_num.specs.declared.request.Request.{Request}
@@ -52,7 +52,14 @@ module _ {Port : Type 0} (image : MemoryImage) (memory : MemoryRange) (stint : S
   going_told zero before after runs = running_told before after runs
   going_told (suc n) before after (s, (t, (path, (made, behind)))) = going_told n before s path ++ (making_told s t made ++ running_told t after behind)
 
-  -- The core went on from there to here, made so many accesses, and this is told of it.
+  -- The way ends with its last access, if it made any: no instruction comes behind that.
+  abbrev pub EndsThere : (accesses : ℕ) → (before after : Moment Port) → GoesOn image memory stint gives core_of logged_of accesses before after → Type 0
+  EndsThere zero before after runs = ⊤
+  EndsThere (suc n) before after (s, (t, (path, (made, behind)))) = behind.instructions ≡ 0
+
+  -- The core went on from there to here, made so many accesses, and this is told of it. Where these are as many as it may
+  -- make, it stopped with the last one.
   pub record HasToldGoing (room_of : Port → ℕ) (made : ℕ) (before after : Moment Port) (told : List Told) : Type 0 where
     pub gone : HasGoneOn image memory stint gives core_of logged_of room_of made before after
     pub is : told ≡ going_told made before after gone.path
+    pub stops : made ≡ stint.accesses → EndsThere made before after gone.path

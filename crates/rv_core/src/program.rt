@@ -96,7 +96,8 @@ pub trait Program {
         ensures port_l1i { Q.l1i port.new ≡ Q.l1i port.old };
 
     /// The same, which tells where the core went: the legs of its way come behind those that are
-    /// there, as long as there is room for them. It does not answer an access to which it comes.
+    /// there, as long as there is room for them. It does not answer an access to which it comes, and
+    /// where it made as many accesses as it may, if any, it stops with the last one.
     #[inline(always)]
     fn run_told_hits<Q: Port>(
         &self,

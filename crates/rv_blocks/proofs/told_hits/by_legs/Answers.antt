@@ -23,9 +23,10 @@ next-preserved-in-On g c =
       from = omega (arith, was.from);
       line = was.line;
       paid = omega (arith, was.paid);
+      ended = was.ended;
       some = was.some;
       room = was.room;
-      told = has_on c.args.image.now c.args.memory.now stint g.Q.Port.gives g.Q.Port.core g.Q.Port.logged g.Q.Port.room c.args.first c.next.from here.place was.from stint.accesses here.left.accesses _ _ _ _ _ refl was.told next;
+      told = has_on c.args.image.now c.args.memory.now stint g.Q.Port.gives g.Q.Port.core g.Q.Port.logged g.Q.Port.room c.args.first c.next.from here.place was.from stint.accesses here.left.accesses _ _ _ _ _ refl was.told was.ended next;
       core = was.core;
       base = was.base;
       size = was.size;
@@ -39,7 +40,7 @@ returns-then-room-eq0-2-clause-told g c =
     let here = c.next.here in
     let next = is_next c.args.image.now c.args.memory.now stint g.Q.Port.gives g.Q.Port.core g.Q.Port.logged g.Q.Port.room c.args.first c.args.slots.now c.requires.slots here.place c.slot_at-slot.result.now c.slot_at-slot.ensures
     here.left c.next.x c.perform.new.x c.in-To.next c.next.port (omega (arith, c.next-test.true)) was.paid c.in-To.ensures.value in
-    has_to c.args.image.now c.args.memory.now stint g.Q.Port.gives g.Q.Port.core g.Q.Port.logged g.Q.Port.room c.args.first c.next.from here.place was.from stint.accesses here.left.accesses _ _ _ _ _ refl was.told next
+    has_to c.args.image.now c.args.memory.now stint g.Q.Port.gives g.Q.Port.core g.Q.Port.logged g.Q.Port.room c.args.first c.next.from here.place was.from stint.accesses here.left.accesses _ _ _ _ _ refl was.told was.ended next
     _ _ c.in-To.next c.tell.ensures.told
 
 pub next-preserved-else-room-eq0-2 : goal.next-preserved-else-room-eq0-2
@@ -54,9 +55,10 @@ next-preserved-else-room-eq0-2 g c =
       from = omega arith;
       line = was.line;
       paid = omega (arith, was.paid);
+      ended = was.ended;
       some = omega (arith, was.some, c.if-room-eq0-2.false);
       room = omega (arith, was.some, was.room, c.tell.ensures.len, c.tell.ensures.capacity);
-      told = has_to c.args.image.now c.args.memory.now stint g.Q.Port.gives g.Q.Port.core g.Q.Port.logged g.Q.Port.room c.args.first c.next.from here.place was.from stint.accesses here.left.accesses _ _ _ _ _ refl was.told next
+      told = has_to c.args.image.now c.args.memory.now stint g.Q.Port.gives g.Q.Port.core g.Q.Port.logged g.Q.Port.room c.args.first c.next.from here.place was.from stint.accesses here.left.accesses _ _ _ _ _ refl was.told was.ended next
           _ _ c.in-To.next c.tell.ensures.told;
       core = was.core;
       base = was.base;
@@ -148,6 +150,7 @@ next-preserved g c =
       from = omega arith;
       line = was.line;
       paid = omega (arith, was.paid, hit.time served);
+      ended = λ none. omega arith;
       some = omega (arith, was.some, c.if-room-eq0-3.false);
       room = omega (arith, was.some, was.room, c.tell-in_default.ensures.len, c.tell-in_default.ensures.capacity);
       told = has_served c.args.image.now c.args.memory.now stint g.Q.Port.gives g.Q.Port.core g.Q.Port.logged g.Q.Port.room c.args.first c.next.from here.place was.from stint.accesses here.left.accesses _ _ _ _ _ refl was.told made

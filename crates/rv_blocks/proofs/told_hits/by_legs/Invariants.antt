@@ -1,4 +1,5 @@
--- The core has come here, its legs are told but for the last, and the port is of the same core and machine.
+-- The core has come here, its legs are told but for the last, and the port is of the same core and machine. Where it may
+-- make no access more, it might make none from the start.
 use Rattle.std.proofs.Common.{◌≡◌, None, ◌+◌, ◌-◌, ◌*◌, ◌<◌, ◌≤◌, length, vec_capacity, vec_len}
 use Rattle.rv_core.specs.Told.{stretch_told}
 use Rattle.rv_blocks.specs.Coming.{moment_at}
@@ -13,6 +14,7 @@ invariant-next g l =
       from : l.from ≤ l.here.place;
       line : l.here.line ≡ None;
       paid : l.here.left.cycles + l.here.left.waited ≤ l.stint.end - l.stint.clock;
+      ended : l.here.left.accesses ≡ 0 → l.stint.accesses ≡ 0;
       some : 0 < l.room;
       room : vec_len l.way + l.room ≡ vec_capacity l.way;
       told : HasTold l.image l.memory l.stint port.gives port.core port.logged port.room l.stint.accesses l.here.left.accesses
