@@ -2,6 +2,7 @@ pub mod Addresses
 pub mod AloneTold
 pub mod BoundPhase
 pub mod FiredInterval
+pub mod GoingAhead
 pub mod HitsLeave
 pub mod MachineSteps
 pub mod PhaseCounts

@@ -21,6 +21,15 @@ module _ (image : MemoryImage) (end : ℕ) where
   none_told : (world : ShardWorld) (number : ℕ) (c : TimedCore) → asks (ran_to image end c) ≡ None → turn_steps shards_serve leaves_shards image end world number c ≡ steps_alone image end number c
   none_told world number c none = rw none (append-nil (steps_alone image end number c))
 
+  -- nor is more told of it where the core had gone ahead within it before
+  pub ahead_told : (world : ShardWorld) (number : ℕ) (core ahead : TimedCore) (before told later : List Step) → ran_to image end ahead ≡ ran_to image end core
+      → told ++ steps_alone image end number ahead ≡ before ++ steps_alone image end number core → asks (ran_to image end ahead) ≡ None
+      → later ≡ told ++ turn_steps shards_serve leaves_shards image end world number ahead → later ≡ before ++ turn_steps shards_serve leaves_shards image end world number core
+  ahead_told world number core ahead before told later ran same none more =
+      more
+      ∙ (ap (λ (steps : List Step). told ++ steps) (none_told world number ahead none)
+      ∙ (same ∙ ap (λ (steps : List Step). before ++ steps) (sym (none_told world number core (sym (ap asks ran) ∙ none)))))
+
   -- the last steps of the cores from this one on
   last_more : (number : ℕ) (c : TimedCore) (cores : List TimedCore) → last_from image end number (c ∷ cores) ≡ steps_alone image end number c ++ last_from image end (number + 1) cores
   last_more number c cores = flat_map-cons (λ at. steps_alone image end at.0 at.1) (number, c) (enumerate_from (number + 1) cores)

@@ -10,12 +10,16 @@ longer turns some more number = append_assoc turns (replicate some number) (repl
 pub one_longer : (turns : List ℕ) (some number : ℕ) → (turns ++ replicate some number) ++ number ∷ [] ≡ turns ++ replicate (some + 1) number
 one_longer turns some number = append_assoc turns (replicate some number) (number ∷ []) ∙ ap (λ (ns : List ℕ). turns ++ ns) (replicate_more some number)
 
--- two parts of a stretch, and a turn more, before others
+-- two parts of a stretch before others
+pub both : (some more number : ℕ) (rest : List ℕ) → replicate some number ++ (replicate more number ++ rest) ≡ replicate (some + more) number ++ rest
+both some more number rest =
+    sym (append_assoc (replicate some number) (replicate more number) rest) ∙ ap (λ (ns : List ℕ). ns ++ rest) (replicate-append-replicate some more number)
+
+-- and a turn more
 pub joined : (some more number : ℕ) (rest : List ℕ) → replicate some number ++ (replicate more number ++ number ∷ rest) ≡ replicate (some + more + 1) number ++ rest
 joined some more number rest =
-    sym (append_assoc (replicate some number) (replicate more number) (number ∷ rest))
-    ∙ (ap (λ (ns : List ℕ). ns ++ number ∷ rest) (replicate-append-replicate some more number)
-    ∙ (sym (append_assoc (replicate (some + more) number) (number ∷ []) rest) ∙ ap (λ (ns : List ℕ). ns ++ rest) (replicate_more (some + more) number)))
+    both some more number (number ∷ rest)
+    ∙ (sym (append_assoc (replicate (some + more) number) (number ∷ []) rest) ∙ ap (λ (ns : List ℕ). ns ++ rest) (replicate_more (some + more) number))
 
 module _ (turns : List ℕ) (place count number : ℕ) (within : place + count ≤ length turns) (same : take (place + count) turns ≡ take place turns ++ replicate count number) where
   before_is : length (take place turns) ≡ place

@@ -1,8 +1,8 @@
 -- Turns of one core whose accesses are hits, which it takes at once, and what is told of them.
-use Rattle.std.proofs.Common.{◌≡◌, ◌⊎◌, ℕ, ◌+◌, ◌*◌, ◌-◌, ◌^◌, ◌<◌, ◌≤◌, drop, get_or, List, [], ◌∷◌, ◌++◌, false, length, map, min, None, Option, option_to_list, Some, All, true≢false, refl, sym, ◌∙◌, ap, subst, inl, inr, arith, append-nil, append_assoc, get_or-set_same}
+use Rattle.std.proofs.Common.{◌≡◌, ◌⊎◌, ℕ, ◌+◌, ◌*◌, ◌-◌, ◌^◌, ◌<◌, ◌≤◌, drop, get_or, Bool, List, [], ◌∷◌, ◌++◌, false, length, map, min, None, Option, option_to_list, Some, All, true≢false, refl, sym, ◌∙◌, ap, subst, inl, inr, arith, append-nil, append_assoc, get_or-set_same}
 use Rattle.std.specs.Prelude.{is_some, replicate, slice_get, slice_set}
 use Rattle.std.specs.Option.{option_and_then, option_map, option_map_or}
-use Rattle.std.proofs.lemmas.List.{length-set, map-set}
+use Rattle.std.proofs.lemmas.List.{append_cancel_right, length-set, map-set}
 use Rattle.std.proofs.lemmas.List.Elements.{All-append, All-head, All-tail}
 use Rattle.std.proofs.lemmas.List.Sums.{get_or-le-sum_by}
 use Rattle.std.proofs.lemmas.Option.{same_Some, slice_get-get_or, slice_get_within}
@@ -66,6 +66,18 @@ not_over end left c going early few =
       | inl over ↦ elim over.over [ inl halted ↦ absurd (true≢false (sym halted ∙ going)) | inr late ↦ (let l = late.1 in absurd (omega (arith, l, early))) ]
       | inr near ↦ near
     ]
+
+-- such a core stays on its way while it goes ahead within its turn
+pub settled_way : (time : Entry → ℕ) (image : MemoryImage) (end : ℕ) (core after : NumberedCore) → Settles time image end Gives core.timed after.timed → after.spare ≡ core.spare
+    → (base size : ℕ) (l1i : Bool) (left : ℕ) → IsNear end left core.timed → IsOnItsWay end base size l1i left core → IsOnItsWay end base size l1i left after
+settled_way time image end core after s same base size l1i left near way = record {
+  few = inr (let a = s.fewer in let b = near.0 in omega (arith, a, b), let a = s.not_later in let b = near.1 in omega (arith, a, b));
+  clock = (let a = s.not_later in let b = way.clock in omega (arith, a, b));
+  spare = (let a = way.spare in omega (arith, a, same));
+  base_is = ap (λ memory. memory.base) s.memory ∙ way.base_is;
+  size_is = ap (λ memory. memory.size) s.memory ∙ way.size_is;
+  fetches = λ fetching. way.fetches (sym s.fetching ∙ fetching);
+}
 
 abbrev pub left_of : {time : Entry → ℕ} {image : MemoryImage} {end most : ℕ} {first : BoundState ShardWorld} {turns : List ℕ} {cores : List NumberedCore} {port : LoggedPortState}
     → HaveTaken time image end most first turns cores port → (number : ℕ) → ℕ
@@ -162,28 +174,19 @@ module _ (time : Entry → ℕ) (image : MemoryImage) (end number : ℕ) where
       ∙ (ap (λ (es : List Entry). es ++ entries) (same_Some next.entries (port.entries ++ e ∷ []) these.1.1.0.logged) ∙ append_assoc port.entries (e ∷ []) entries)
 
 module _ (time : Entry → ℕ) (image : MemoryImage) (end most : ℕ) (first : BoundState ShardWorld) (number : ℕ) where
-  settled : (turns : List ℕ) (cores : List NumberedCore) (port : LoggedPortState) (h : HaveTaken time image end most first turns cores port) (core : NumberedCore) (last : TimedCore)
-      → slice_get cores number ≡ Some core → IsNear end (left_of h number) core.timed → Settles time image end Gives core.timed last
-      → HaveTaken time image end most first turns (slice_set cores number (at_time core last)) port
-  settled turns cores port h core last here near s =
-      let after : NumberedCore = at_time core last in
+  -- a core that goes ahead within its turn
+  pub ahead_taken : (turns : List ℕ) (cores : List NumberedCore) (port : LoggedPortState) (h : HaveTaken time image end most first turns cores port) (core after : NumberedCore)
+      → slice_get cores number ≡ Some core → ran_to image end after.timed ≡ ran_to image end core.timed → after.number ≡ core.number
+      → IsOnItsWay end (base_of port.world) (size_of port.world) (l1i_of port.world) (left_of h number) after
+      → HaveTaken time image end most first turns (slice_set cores number after) port
+  ahead_taken turns cores port h core after here ran own_number own =
       let as_many : length (slice_set cores number after) ≡ length cores = length-set cores number after in
       let within : number < length cores = slice_get_within cores number core here in
       let left_here : slice_get h.left number ≡ Some (left_of h number) = slice_get-get_or h.left number 0 (let count = h.count in omega (arith, within, count)) in
-      let way = h.each number (left_of h number) core left_here here in
-      let own : IsOnItsWay end (base_of port.world) (size_of port.world) (l1i_of port.world) (left_of h number) after = record {
-        few = inr (let a = s.fewer in let b = near.0 in omega (arith, a, b), let a = s.not_later in let b = near.1 in omega (arith, a, b));
-        clock = (let a = s.not_later in let b = way.clock in omega (arith, a, b));
-        spare = way.spare;
-        base_is = ap (λ memory. memory.base) s.memory ∙ way.base_is;
-        size_is = ap (λ memory. memory.size) s.memory ∙ way.size_is;
-        fetches = λ fetching. way.fetches (sym s.fetching ∙ fetching);
-      }
-      in
-      let to : with_core (phase_of cores port) number last ≡ phase_of (slice_set cores number after) port =
+      let to : with_core (phase_of cores port) number after.timed ≡ phase_of (slice_set cores number after) port =
       ap (λ (cs : List TimedCore). let x : BoundState ShardWorld = record { cores = cs; world = port.world; entries = port.entries } in x) (sym (map-set (λ (c : NumberedCore). c.timed) cores number after))
       in
-      let led = goes_on time image end first (phase_of cores port) turns number core.timed last h.reaches (get_mapped (λ (c : NumberedCore). c.timed) cores number core here) s.ran in
+      let led = goes_on time image end first (phase_of cores port) turns number core.timed after.timed h.reaches (get_mapped (λ (c : NumberedCore). c.timed) cores number core here) ran in
       record {
         reaches = subst (λ (x : BoundState ShardWorld). Reaches shards_serve time image end first turns x) to led;
         left = h.left;
@@ -196,10 +199,19 @@ module _ (time : Entry → ℕ) (image : MemoryImage) (end most : ℕ) (first : 
             (λ apart was. h.each i n c left was);
         few = h.few;
         room = h.room;
-        numbered = λ i c found. set_cases cores number i core after c here found (λ x. x.number ≡ i) (λ same. h.numbered number core here ∙ sym same) (λ apart was. h.numbered i c was);
+        numbered = λ i c found. set_cases cores number i core after c here found (λ x. x.number ≡ i) (λ same. own_number ∙ h.numbered number core here ∙ sym same) (λ apart was. h.numbered i c was);
         stamps = h.stamps ∙ sym as_many;
         starts = h.starts;
       }
+
+  settled : (turns : List ℕ) (cores : List NumberedCore) (port : LoggedPortState) (h : HaveTaken time image end most first turns cores port) (core : NumberedCore) (last : TimedCore)
+      → slice_get cores number ≡ Some core → IsNear end (left_of h number) core.timed → Settles time image end Gives core.timed last
+      → HaveTaken time image end most first turns (slice_set cores number (at_time core last)) port
+  settled turns cores port h core last here near s =
+      let within : number < length cores = slice_get_within cores number core here in
+      let left_here : slice_get h.left number ≡ Some (left_of h number) = slice_get-get_or h.left number 0 (let count = h.count in omega (arith, within, count)) in
+      ahead_taken turns cores port h core (at_time core last) here s.ran refl
+      (settled_way time image end core (at_time core last) s refl (base_of port.world) (size_of port.world) (l1i_of port.world) (left_of h number) near (h.each number (left_of h number) core left_here here))
 
   -- ---- a core that takes turns
 
@@ -383,6 +395,22 @@ module _ (time : Entry → ℕ) (image : MemoryImage) (end most : ℕ) (first : 
       ∙ (append_assoc before (told_steps number told entries) (Later last)
       ∙ (ap (λ (steps : List Step). before ++ steps) within
       ∙ ap (λ (steps : List Step). before ++ steps) (sym (these_told time image end most first number entries turns cores port port_after h core last small here these hits (number ∷ rest)))))
+
+  -- and of the turns alone, where the core stands behind the last of them
+  pub turns_told : (told : List Told) (before later : List Step) → TellsTurns time image end told entries core.timed last → last ≡ behind_turns time image end entries core.timed
+      → later ≡ before ++ told_steps number told entries → (rest : List ℕ)
+      → later ++ phase_steps shards_serve leaves_shards image end time rest (phase_of (slice_set cores number (at_time core last)) port_after)
+      ≡ before ++ phase_steps shards_serve leaves_shards image end time (replicate (length entries) number ++ rest) (phase_of cores port)
+  turns_told told before later tells stops is rest =
+      let behind : TimedCore = behind_turns time image end entries core.timed in
+      let by_turns = told_by_turns time image end entries core.timed in
+      let Later : TimedCore → List Step = λ c. phase_steps shards_serve leaves_shards image end time rest (phase_of (slice_set cores number (at_time core c)) port_after) in
+      let same : told ≡ by_turns = append_cancel_right told by_turns (told_alone image end behind) (ap (λ (c : TimedCore). told ++ told_alone image end c) (sym stops) ∙ tells) in
+      ap (λ (steps : List Step). steps ++ Later last) is
+      ∙ (append_assoc before (told_steps number told entries) (Later last)
+      ∙ (ap (λ (t : List Told). before ++ (told_steps number t entries ++ Later last)) same
+      ∙ (ap (λ (c : TimedCore). before ++ (told_steps number by_turns entries ++ Later c)) stops
+      ∙ ap (λ (steps : List Step). before ++ steps) (sym (these_told time image end most first number entries turns cores port port_after h core last small here these hits rest)))))
 
 -- the legs of a way that tells them fit
 pub way_fits : (time : Entry → ℕ) (image : MemoryImage) (end : ℕ) (entries : List Entry) (told : List Told) (before last : TimedCore) (legs : List Leg) → before.core.pc < 2 ^ 64

@@ -12,10 +12,11 @@ use Rattle.bound_core.specs.ShardWorld.{ShardWorld, shards_serve}
 use Rattle.bound_core.specs.NumberedCores.{NumberedCore, timed_of}
 use Rattle.bound_core.specs.IntervalBounds.{latest_clock, most_accesses}
 use Rattle.bound_core.specs.Taken.{TakesThese}
-use Rattle.bound_core.specs.ToldTurns.{TellsTurns}
+use Rattle.bound_core.specs.ToldTurns.{behind_turns, TellsTurns}
+use Rattle.bound_core.specs.TimedCore.{ran_to}
 use Rattle.bound_core.specs.Turn.{EndsInterval, IsOver, TakesTurn}
 use Rattle.trace.specs.Port.{Gives, LoggedPortState, phase_of}
-use Rattle.trace.specs.Trace.{Step}
+use Rattle.trace.specs.Trace.{Step, steps_alone}
 use Rattle.trace.specs.Ways.{told_steps}
 use Rattle.reference.specs.ReferenceRun.{access_room, time_of}
 use Rattle.bound_records.specs.CoreRuns.{AreNumbered}
@@ -76,8 +77,9 @@ pub record TakesNone (image : MemoryImage) (end : ℕ) (port port_after : Logged
   pub fetching : after.timed.core.fetching ≡ core.timed.core.fetching
   pub spare : after.spare ≡ core.spare
 
--- what so many turns do whose accesses are hits, and instructions of the turn that follows, and what is told of them
-pub record TakesHits (time : Entry → ℕ) (image : MemoryImage) (end count : ℕ) (port port_after : LoggedPortState) (core after : NumberedCore) (steps steps_after : List Step) : Type 0 where
+-- What so many turns do, of those that might be taken, whose accesses are hits, and instructions of the turn that follows,
+-- and what is told of them. Where they are as many as might be taken, if any, the core stands behind the last one.
+pub record TakesHits (time : Entry → ℕ) (image : MemoryImage) (end most count : ℕ) (port port_after : LoggedPortState) (core after : NumberedCore) (steps steps_after : List Step) : Type 0 where
   pub entries : List Entry
   pub told : List Told
   pub many : length entries ≡ count
@@ -85,8 +87,18 @@ pub record TakesHits (time : Entry → ℕ) (image : MemoryImage) (end count : �
   pub hits : All (λ e. e.outcome ≡ Hit) entries
   pub tells : TellsTurns time image end told entries core.timed after.timed
   pub are : steps_after ≡ steps ++ told_steps core.number told entries
+  pub stops : 0 < most → count ≡ most → after.timed ≡ behind_turns time image end entries core.timed
   pub number : after.number ≡ core.number
   pub spare : after.spare ≡ core.spare
+
+-- What a core does that goes ahead within a turn, without an access: what was told and what its instructions up to its next
+-- access still tell is the same as before, and so is the port, whichever core is chosen.
+pub record GoesAhead (image : MemoryImage) (end : ℕ) (port port_after : LoggedPortState) (core after : NumberedCore) (steps steps_after : List Step) : Type 0 where
+  pub ran : ran_to image end after.timed ≡ ran_to image end core.timed
+  pub stays : (base size : ℕ) (l1i : Bool) (left : ℕ) → IsOnItsWay end base size l1i left core → IsOnItsWay end base size l1i left after
+  pub same : chosen port_after core.number ≡ chosen port core.number
+  pub number : after.number ≡ core.number
+  pub tells : steps_after ++ steps_alone image end core.number after.timed ≡ steps ++ steps_alone image end core.number core.timed
 
 -- ---- all turns of an interval
 

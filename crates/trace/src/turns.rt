@@ -12,7 +12,7 @@ ghost use Rattle.bound_records.specs.Turns.{time_by_net};
 ghost use Rattle.replay.specs.Replay.{IfIllegal};
 ghost use Rattle.trace.specs.Port.{leaves_shards, phase_of};
 ghost use Rattle.trace.specs.Trace.{access_step, last_from, phase_steps, turn_steps};
-ghost use Rattle.trace.specs.Turns.{HaveTaken, IsOnItsWay, TakesAccess, TakesHits, TakesNone, chosen};
+ghost use Rattle.trace.specs.Turns.{GoesAhead, HaveTaken, IsOnItsWay, TakesAccess, TakesHits, TakesNone, chosen};
 
 use crate::Tracer;
 use crate::alone::run_alone;
@@ -24,6 +24,10 @@ use replay::ReplayFail;
 use rv_blocks::DecodedProgram;
 use rv_core::Leg;
 use zs_num::{Cycle, NoMemory, Request};
+
+/// How often a core goes on by itself, at most, before its last turn. There is room for a thousand
+/// legs of its way, an interval has at most 10,000 cycles, and each leg takes one at least.
+const PASSES: u64 = 10;
 
 /// Takes the turns of a list in this interval, and then has each core end it. Where the list is not
 /// legal, it answers the first place that is not: the core there has no access before it ends its
@@ -66,7 +70,7 @@ pub fn take_turns<T: Tracer>(
             });
         }
     }
-    let ended = end_all(program, net, end, cores, port, tracer)?;
+    let ended = end_all(program, net, end, cores, port, way, tracer)?;
     if ended {
         Ok(())
     } else {
@@ -117,9 +121,12 @@ fn take_stretch<T: Tracer>(
 {
     let mut taken = 0;
     while taken < count {
-        let most = count - taken - 1;
+        let most = count - taken;
         let hits = take_hits(program, net, end, number, most, cores, port, way, tracer)?;
         taken += hits;
+        if taken == count {
+            return Ok(taken);
+        }
         let core = &mut cores[usize::from(number)];
         let took = take_turn(program, net, end, number, core, port, tracer)?;
         if !took {
@@ -132,7 +139,7 @@ fn take_stretch<T: Tracer>(
 
 /// Takes turns of the core of this number whose accesses are hits that are at hand, `most` at most,
 /// and instructions of the turn that follows, and tells them. Answers how many turns it took, which
-/// may be 0.
+/// may be 0. Where it took `most`, if any, nothing that comes behind the last access is told.
 fn take_hits<T: Tracer>(
     program: &DecodedProgram<'_>,
     net: &Net,
@@ -150,11 +157,12 @@ fn take_hits<T: Tracer>(
     ensures few { IfOk result (λ taken. taken ≤ most) }
     ensures taken { IfOk result (λ taken. (most : ℕ) (first : BoundState ShardWorld) (turns : List ℕ) → HaveTaken (time_by_net net.now) program.now end most first turns cores.old port.old → HaveTaken (time_by_net net.now) program.now end most first (turns ++ replicate taken number) cores.new port.new) }
     ensures told { IfOk result (λ taken. (rest : List ℕ) → T.steps tracer.new ++ phase_steps shards_serve leaves_shards program.now end (time_by_net net.now) (number ∷ rest) (phase_of cores.new port.new) ≡ T.steps tracer.old ++ phase_steps shards_serve leaves_shards program.now end (time_by_net net.now) (replicate taken number ++ number ∷ rest) (phase_of cores.old port.old)) }
+    ensures whole { IfOk result (λ taken. 0 < most → taken ≡ most → (rest : List ℕ) → T.steps tracer.new ++ phase_steps shards_serve leaves_shards program.now end (time_by_net net.now) rest (phase_of cores.new port.new) ≡ T.steps tracer.old ++ phase_steps shards_serve leaves_shards program.now end (time_by_net net.now) (replicate taken number ++ rest) (phase_of cores.old port.old)) }
     ensures fixed { T.fixed tracer.new ≡ T.fixed tracer.old }
     ensures count { length cores.new ≡ length cores.old }
 {
     let core = &mut cores[usize::from(number)];
-    if most == 0 || core.halted().is_some() || core.clock() >= end {
+    if core.halted().is_some() || core.clock() >= end {
         return Ok(0);
     }
     let taken = take_told_hits(program, net, end, number, most, core, port, way, tracer)?;
@@ -182,7 +190,7 @@ fn take_told_hits<T: Tracer>(
     requires room { most_accesses end core.old.timed ≤ min (room_of port.old.world) port.old.room }
     requires clock { core.old.timed.clock ≤ 2 ^ 61 }
     ensures few { IfOk result (λ taken. taken ≤ most) }
-    ensures hits { IfOk result (λ taken. TakesHits (time_by_net net.now) program.now end taken (chosen port.old number) port.new core.old core.new (T.steps tracer.old) (T.steps tracer.new)) }
+    ensures hits { IfOk result (λ taken. TakesHits (time_by_net net.now) program.now end most taken (chosen port.old number) port.new core.old core.new (T.steps tracer.old) (T.steps tracer.new)) }
     ensures fixed { T.fixed tracer.new ≡ T.fixed tracer.old }
 {
     port.choose(number);
@@ -202,6 +210,7 @@ fn end_all<T: Tracer>(
     end: Cycle,
     cores: &mut [BoundCore],
     port: &mut LoggedPort,
+    way: &mut Vec<Leg>,
     tracer: &mut T,
 ) -> Result<bool, NoMemory>
     requires end { end ≤ 10 * 2 ^ 30 }
@@ -215,12 +224,45 @@ fn end_all<T: Tracer>(
     ensures count { length cores.new ≡ length cores.old }
 {
     for (number, core) in cores.iter_mut().enumerate() {
+        go_ahead(program, net, end, number as u16, core, port, way, tracer)?;
         let took = take_turn(program, net, end, number as u16, core, port, tracer)?;
         if took {
             return Ok(false);
         }
     }
     Ok(true)
+}
+
+/// Has a core, which has this number, go on by itself without an access, as far as it goes, and tells
+/// where it went by the legs of its way.
+fn go_ahead<T: Tracer>(
+    program: &DecodedProgram<'_>,
+    net: &Net,
+    end: Cycle,
+    number: u16,
+    core: &mut BoundCore,
+    port: &mut LoggedPort,
+    way: &mut Vec<Leg>,
+    tracer: &mut T,
+) -> Result<(), NoMemory>
+    requires end { end ≤ 10 * 2 ^ 30 }
+    requires number { core.old.number ≡ number }
+    requires known { number < length port.old.world.stamps }
+    requires way { (left : ℕ) × (left ≤ min (room_of port.old.world) port.old.room) × IsOnItsWay end (base_of port.old.world) (size_of port.old.world) (l1i_of port.old.world) left core.old }
+    ensures goes { OnOk result (GoesAhead program.now end port.old port.new core.old core.new (T.steps tracer.old) (T.steps tracer.new)) }
+    ensures fixed { T.fixed tracer.new ≡ T.fixed tracer.old }
+{
+    if core.halted().is_some() || core.clock() >= end {
+        return Ok(());
+    }
+    for _ in 0..PASSES {
+        take_told_hits(program, net, end, number, 0, core, port, way, tracer)?;
+        // The legs of its whole way had room.
+        if way.len() < way.capacity() {
+            return Ok(());
+        }
+    }
+    Ok(())
 }
 
 /// A turn of a core, which has this number: its local instructions, and then one access. Answers

@@ -10,10 +10,10 @@ use Rattle.bound_records.specs.Turns.{time_by_net}
 use Rattle.bound_records.proofs.Lists.{get_mapped}
 use Rattle.reference.proofs.Lists.{get_set}
 use Rattle.trace.specs.Port.{leaves_shards, phase_of}
-use Rattle.trace.specs.Trace.{phase_steps, turn_steps}
+use Rattle.trace.specs.Trace.{Step, phase_steps, turn_steps}
 use Rattle.trace.specs.Turns.{HaveTaken, chosen}
 use Rattle.trace.proofs.PhaseTold.{turn_told}
-use Rattle.trace.proofs.Stretches.{joined, longer, one_longer}
+use Rattle.trace.proofs.Stretches.{both, joined, longer, one_longer}
 use Rattle.trace.proofs.TakingTurns.{one_ended, one_taken, one_turn}
 use Rattle.trace.proofs.turns.take_stretch.Goals as goal
 
@@ -62,6 +62,32 @@ take_turn-requires-clause-way g c =
     let left = get_or h.left n 0 in
     (left, h.each n left (get_or cores n c.index-cores-from.result) (slice_get-get_or h.left n 0 (omega (arith, below, h.count))) (slice_get-get_or cores n c.index-cores-from.result below))
 
+pub returns-then-taken-count-clause-taken : goal.returns-then-taken-count-clause-taken
+returns-then-taken-count-clause-taken g c = λ most first turns h.
+    let number = c.args.number in
+    let some = c.loop-taken.taken in
+    let more = c.in_ok-hits.hits in
+    let hits = c.in_ok-hits.ensures.taken most first (turns ++ replicate some number) (c.loop-taken.invariant.way most first turns h) in
+    subst (λ (ns : List ℕ). HaveTaken (time_by_net c.args.net.now) c.args.program.now c.args.end most first ns c.take_hits.new.cores c.take_hits.new.port) (longer turns some more number) hits
+
+pub returns-then-taken-count-clause-few : goal.returns-then-taken-count-clause-few
+returns-then-taken-count-clause-few g c = omega (arith, c.if-taken-count.true)
+
+pub returns-then-taken-count-clause-over : goal.returns-then-taken-count-clause-over
+returns-then-taken-count-clause-over g c = λ fewer core found. absurd (omega (arith, fewer, c.if-taken-count.true))
+
+pub returns-then-taken-count-clause-told : goal.returns-then-taken-count-clause-told
+returns-then-taken-count-clause-told g c = λ is rest.
+    let number = c.args.number in
+    let some = c.loop-taken.taken in
+    let more = c.in_ok-hits.hits in
+    let all : some + more ≡ c.args.count = c.if-taken-count.true in
+    let first = phase_of c.args.cores.now c.args.port.now in
+    let old = g.T.Tracer.steps c.args.tracer.now in
+    let Steps : List ℕ → List Step = λ ns. old ++ phase_steps shards_serve leaves_shards c.args.program.now c.args.end (time_by_net c.args.net.now) ns first in
+    c.in_ok-hits.ensures.whole (omega (arith, c.loop-taken-test.true)) (omega (arith, all)) rest
+    ∙ (c.loop-taken.invariant.told (replicate more number ++ rest) ∙ ap Steps (both some more number rest ∙ ap (λ (k : ℕ). replicate k number ++ rest) all))
+
 pub returns-then-not-took-clause-taken : goal.returns-then-not-took-clause-taken
 returns-then-not-took-clause-taken g c = λ most first turns h.
     let time = time_by_net c.args.net.now in
@@ -81,6 +107,12 @@ returns-then-not-took-clause-taken g c = λ most first turns h.
     let hits = c.in_ok-hits.ensures.taken most first (turns ++ replicate some number) (c.loop-taken.invariant.way most first turns h) in
     subst (λ (ns : List ℕ). HaveTaken time image end most first ns (slice_set cores n after) c.take_turn.new.port) (longer turns some more number)
     (one_ended time image end most first _ cores port hits n core after here (chosen port number) c.take_turn.new.port refl refl refl (c.in_ok-took.ensures.none none))
+
+pub returns-then-not-took-clause-few : goal.returns-then-not-took-clause-few
+returns-then-not-took-clause-few g c = omega (arith, c.in_ok-hits.ensures.few, c.loop-taken.invariant.few, c.loop-taken-test.true)
+
+pub returns-then-not-took-clause-told : goal.returns-then-not-took-clause-told
+returns-then-not-took-clause-told g c = λ is. absurd (omega (arith, is, c.if-taken-count.false))
 
 pub returns-then-not-took-clause-over : goal.returns-then-not-took-clause-over
 returns-then-not-took-clause-over g c = λ fewer last found.
@@ -144,7 +176,23 @@ loop-taken-preserved g c =
           ∙ (c.in_ok-hits.ensures.told rest
           ∙ (c.loop-taken.invariant.told (replicate more number ++ number ∷ rest)
           ∙ ap (λ (ns : List ℕ). old ++ phase_steps shards_serve leaves_shards image end time ns first) (joined some more number rest))));
-      few = omega (arith, c.in_ok-hits.ensures.few, c.loop-taken.invariant.few, c.loop-taken-test.true);
+      few = omega (arith, c.in_ok-hits.ensures.few, c.loop-taken.invariant.few, c.loop-taken-test.true, c.if-taken-count.false);
       count = length-set cores n after ∙ (c.take_hits.ensures.count ∙ c.loop-taken.invariant.count);
       fixed = c.take_turn.ensures.fixed ∙ (c.take_hits.ensures.fixed ∙ c.loop-taken.invariant.fixed);
     }
+
+pub returns-clause-few : goal.returns-clause-few
+returns-clause-few g c = c.loop-taken.invariant.few
+
+pub returns-clause-taken : goal.returns-clause-taken
+returns-clause-taken g c = c.loop-taken.invariant.way
+
+pub returns-clause-told : goal.returns-clause-told
+returns-clause-told g c = λ is rest.
+    let first = phase_of c.args.cores.now c.args.port.now in
+    let old = g.T.Tracer.steps c.args.tracer.now in
+    let Steps : ℕ → List Step = λ k. old ++ phase_steps shards_serve leaves_shards c.args.program.now c.args.end (time_by_net c.args.net.now) (replicate k c.args.number ++ rest) first in
+    c.loop-taken.invariant.told rest ∙ ap Steps is
+
+pub returns-clause-over : goal.returns-clause-over
+returns-clause-over g c = λ fewer core found. absurd (omega (arith, fewer, c.loop-taken-test.false))

@@ -59,6 +59,7 @@ returns-clause-hits g c =
           ∙ (ap (λ (t : List Told). before ++ told_steps c.args.number t c.behind.result.now) told
           ∙ (ap (λ (es : List Entry). before ++ told_steps c.args.number did.told es) entries
           ∙ ap (λ (n : ℕ). before ++ told_steps n did.told did.entries) (sym c.requires.number))));
+      stops = did.stops;
       number = c.take_told_hits-taken.ensures.number;
       spare = c.take_told_hits-taken.ensures.spare;
     }
