@@ -1,6 +1,6 @@
 //! What is kept of a core.
-ghost use Rattle.std.specs.Prelude.{◌≡◌, ◌+◌, ◌*◌, ◌≤◌, ◌^◌, IfOk, option_to_list};
-ghost use Rattle.last_jumps.specs.Jumps.{behind};
+ghost use Rattle.std.specs.Prelude.{◌≡◌, ◌+◌, ◌*◌, ◌≤◌, ◌^◌, ◌++◌, ◌∷◌, [], IfOk, option_to_list};
+ghost use Rattle.last_jumps.specs.Jumps.{behind, last_of};
 ghost use Rattle.last_jumps.specs.Kept.{jump_to, jumps_with, nothing_kept, with_one_more, with_stretch};
 
 use circular_buffer::HeapCircularBuffer;
@@ -45,16 +45,26 @@ impl CoreJumps {
     }
 
     /// It executed an instruction.
+    #[inline(always)]
     pub(crate) fn execute(&mut self, pc: u64)
         ensures { self.new ≡ with_one_more pc self.old }
     {
         if let Some(jump) = jump_to(self.latest, pc) {
-            let _ = self.jumps.push_back(jump);
+            self.keep(jump);
         }
         self.latest = Some(pc);
     }
 
+    /// It jumped: where 16 jumps are kept, the oldest one gives way.
+    #[inline(never)]
+    fn keep(&mut self, jump: Jump)
+        ensures { self.new ≡ record { latest = self.old.latest; jumps = last_of 16 (self.old.jumps ++ jump ∷ []) } }
+    {
+        let _ = self.jumps.push_back(jump);
+    }
+
     /// It executed so many instructions that follow each other, the first of them at `pc`.
+    #[inline(always)]
     pub(crate) fn execute_all(&mut self, pc: u64, count: u64)
         requires { pc + 4 * count ≤ 2 ^ 48 }
         ensures { self.new ≡ with_stretch pc count self.old }
@@ -81,6 +91,7 @@ impl CoreJumps {
 }
 
 /// The jump to an instruction from the one before, if there is one.
+#[inline(always)]
 fn jump_to(latest: Option<u64>, to: u64) -> Option<Jump>
     ensures { option_to_list result ≡ jump_to latest to }
 {
@@ -91,6 +102,7 @@ fn jump_to(latest: Option<u64>, to: u64) -> Option<Jump>
 }
 
 /// The address behind an instruction.
+#[inline(always)]
 fn behind(pc: u64) -> u64
     ensures { result ≡ behind pc }
 {

@@ -19,6 +19,7 @@ pub(crate) const UNUSED: LineBytes = LineBytes {
 
 impl LineBytes {
     /// Those of an access.
+    #[inline(always)]
     pub(crate) fn of(request: &Request) -> LineBytes
         ensures read { HasBits result.read (λ i. reads request.now && has_byte request.now i) }
         ensures written { HasBits result.written (λ i. writes request.now && has_byte request.now i) }
@@ -31,6 +32,7 @@ impl LineBytes {
     }
 
     /// Both together.
+    #[inline(always)]
     pub(crate) fn and(self, more: LineBytes) -> LineBytes
         ensures read { (i : ℕ) → has_bit result.read i ≡ (has_bit self.read i || has_bit more.read i) }
         ensures written { (i : ℕ) → has_bit result.written i ≡ (has_bit self.written i || has_bit more.written i) }
@@ -42,6 +44,7 @@ impl LineBytes {
     }
 
     /// Whether they are the same.
+    #[inline(always)]
     pub(crate) fn is(self, other: LineBytes) -> bool
         ensures { IsTrue result → self ≡ other }
     {
@@ -50,6 +53,7 @@ impl LineBytes {
 }
 
 /// Whether it reads its bytes.
+#[inline(always)]
 fn reads(request: &Request) -> bool
     ensures { result ≡ reads request.now }
 {
@@ -60,6 +64,7 @@ fn reads(request: &Request) -> bool
 }
 
 /// Whether it writes them.
+#[inline(always)]
 fn writes(request: &Request) -> bool
     ensures { result ≡ writes request.now }
 {
@@ -70,6 +75,7 @@ fn writes(request: &Request) -> bool
 }
 
 /// The bits of both masks.
+#[inline(always)]
 fn either(a: u64, b: u64) -> u64
     ensures { (i : ℕ) → has_bit result i ≡ (has_bit a i || has_bit b i) }
 {
@@ -77,6 +83,7 @@ fn either(a: u64, b: u64) -> u64
 }
 
 /// A mask, or the empty one.
+#[inline(always)]
 fn only_if(so: bool, mask: u64) -> u64
     ensures { (i : ℕ) → has_bit result i ≡ (so && has_bit mask i) }
 {
@@ -84,6 +91,7 @@ fn only_if(so: bool, mask: u64) -> u64
 }
 
 /// The bits from one place up to another one.
+#[inline(always)]
 fn bits_between(from: u64, to: u64) -> u64
     requires from { from < to }
     requires to { to ≤ 64 }
@@ -93,6 +101,7 @@ fn bits_between(from: u64, to: u64) -> u64
 }
 
 /// The bytes of its line that an access reads or writes.
+#[inline(always)]
 fn bytes_of(request: &Request) -> u64
     ensures { HasBits result (has_byte request.now) }
 {

@@ -1,7 +1,7 @@
 //! What all cores use of all lines.
 ghost use Rattle.std.specs.Prelude.{◌≡◌, ℕ, OnErr, OnOk};
 ghost use Rattle.line_use.specs.Right.{AddsUse, unused};
-ghost use Rattle.sparse_table.specs.ByCore.{value_at};
+ghost use Rattle.sparse_table.specs.ByCore.{value_at, with_one};
 
 use crate::line_bytes::{LineBytes, UNUSED};
 use sparse_table::SparseTable;
@@ -10,6 +10,7 @@ use std::alloc::Global;
 use zs_num::{NoMemory, Request};
 
 /// Adds the bytes of an access of a core. Nothing is written where all of them were there.
+#[inline(always)]
 pub(crate) fn add_use(
     alloc: Global,
     uses: &mut Vec<SparseTable<LineBytes>>,
@@ -25,5 +26,20 @@ pub(crate) fn add_use(
     if after.is(before) {
         return Ok(());
     }
-    set_at(alloc, uses, UNUSED, core, line, after)
+    keep(alloc, uses, core, line, after)
+}
+
+/// Keeps what a core uses of a line.
+#[inline(never)]
+fn keep(
+    alloc: Global,
+    uses: &mut Vec<SparseTable<LineBytes>>,
+    core: u16,
+    line: u64,
+    bytes: LineBytes,
+) -> Result<(), NoMemory>
+    ensures ok { OnOk result ((c n : ℕ) → value_at unused uses.new.items c n ≡ with_one core line bytes (value_at unused uses.old.items) c n) }
+    ensures err { OnErr result ((c n : ℕ) → value_at unused uses.new.items c n ≡ value_at unused uses.old.items c n) }
+{
+    set_at(alloc, uses, UNUSED, core, line, bytes)
 }

@@ -72,31 +72,40 @@ impl<A: Tracer, B: Tracer> Tracer for Both<A, B> {
 
     #[inline(always)]
     fn executed(&mut self, core: u16, pc: u64) -> Result<(), NoMemory> {
-        let was_whole = self.is_whole;
-        self.is_whole = false;
-        self.first.executed(core, pc)?;
-        self.second.executed(core, pc)?;
-        self.is_whole = was_whole;
+        if let Err(no_memory) = self.first.executed(core, pc) {
+            self.is_whole = false;
+            return Err(no_memory);
+        }
+        if let Err(no_memory) = self.second.executed(core, pc) {
+            self.is_whole = false;
+            return Err(no_memory);
+        }
         Ok(())
     }
 
     #[inline(always)]
     fn executed_all(&mut self, core: u16, pc: u64, count: u64) -> Result<(), NoMemory> {
-        let was_whole = self.is_whole;
-        self.is_whole = false;
-        self.first.executed_all(core, pc, count)?;
-        self.second.executed_all(core, pc, count)?;
-        self.is_whole = was_whole;
+        if let Err(no_memory) = self.first.executed_all(core, pc, count) {
+            self.is_whole = false;
+            return Err(no_memory);
+        }
+        if let Err(no_memory) = self.second.executed_all(core, pc, count) {
+            self.is_whole = false;
+            return Err(no_memory);
+        }
         Ok(())
     }
 
     #[inline(always)]
     fn accessed(&mut self, pc: u64, entry: &Entry, leaving: Leaving) -> Result<(), NoMemory> {
-        let was_whole = self.is_whole;
-        self.is_whole = false;
-        self.first.accessed(pc, entry, leaving)?;
-        self.second.accessed(pc, entry, leaving)?;
-        self.is_whole = was_whole;
+        if let Err(no_memory) = self.first.accessed(pc, entry, leaving) {
+            self.is_whole = false;
+            return Err(no_memory);
+        }
+        if let Err(no_memory) = self.second.accessed(pc, entry, leaving) {
+            self.is_whole = false;
+            return Err(no_memory);
+        }
         Ok(())
     }
 
@@ -107,11 +116,14 @@ impl<A: Tracer, B: Tracer> Tracer for Both<A, B> {
         fired: &FiredList,
         delays: &[u64],
     ) -> Result<(), NoMemory> {
-        let was_whole = self.is_whole;
-        self.is_whole = false;
-        self.first.ended(entries, graph, fired, delays)?;
-        self.second.ended(entries, graph, fired, delays)?;
-        self.is_whole = was_whole;
+        if let Err(no_memory) = self.first.ended(entries, graph, fired, delays) {
+            self.is_whole = false;
+            return Err(no_memory);
+        }
+        if let Err(no_memory) = self.second.ended(entries, graph, fired, delays) {
+            self.is_whole = false;
+            return Err(no_memory);
+        }
         Ok(())
     }
 }
