@@ -208,3 +208,28 @@ one_further was now later pc place n true so_far more = by (eqb_tells (pc + 4 * 
         let so : now ≡ capped (was + 0) = rw is at so_far in
         let none : later ≡ capped (now + 0) = rw not_it at more in
         rw not_in (omega (arith, so, none))
+
+-- one more of the first of them, and then one more of those behind
+pub both_parts : (was mid later pc first count n : ℕ) (test : Bool) → first ≤ count → mid ≡ capped (was + one_if (test && is_in_stretch pc first n))
+    → later ≡ capped (mid + one_if (test && is_in_stretch (pc + 4 * first) (count - first) n)) → later ≡ capped (was + one_if (test && is_in_stretch pc count n))
+both_parts was mid later pc first count n false le begun behind = omega (arith, begun, behind)
+both_parts was mid later pc first count n true le begun behind = by (is_in_stretch pc first n) refl (is_in_stretch (pc + 4 * first) (count - first) n) refl
+  where
+    by : (one : Bool) → is_in_stretch pc first n ≡ one → (other : Bool) → is_in_stretch (pc + 4 * first) (count - first) n ≡ other
+        → later ≡ capped (was + one_if (is_in_stretch pc count n))
+    by true in_first true in_rest = absurd (grind (arith, tests, in_first, in_rest))
+    by true in_first false out_rest =
+        let all : is_in_stretch pc count n ≡ true = grind (arith, tests, in_first, le) in
+        let so : mid ≡ capped (was + 1) = rw in_first at begun in
+        let none : later ≡ capped (mid + 0) = rw out_rest at behind in
+        rw all (omega (arith, so, none))
+    by false out_first true in_rest =
+        let all : is_in_stretch pc count n ≡ true = grind (arith, tests, in_rest, le) in
+        let none : mid ≡ capped (was + 0) = rw out_first at begun in
+        let so : later ≡ capped (mid + 1) = rw in_rest at behind in
+        rw all (omega (arith, so, none))
+    by false out_first false out_rest =
+        let all : is_in_stretch pc count n ≡ false = grind (arith, tests, out_first, out_rest, le) in
+        let first_none : mid ≡ capped (was + 0) = rw out_first at begun in
+        let none : later ≡ capped (mid + 0) = rw out_rest at behind in
+        rw all (omega (arith, first_none, none))

@@ -20,7 +20,7 @@ module _ (singles : List (Sparse ℕ)) (old new : List (Sparse Stretch)) (sound 
   }
 
   -- and where one more fits
-  pub sound_more : (core pc : ℕ) (more : Stretch) → pc + 4 * more.count ≤ 2 ^ 64 → ((c n : ℕ) → value_at no_stretch new c n ≡ with_one core pc more (value_at no_stretch old) c n) → AreSound after
+  pub sound_more : (core pc : ℕ) (more : Stretch) → ((place : ℕ) → place < more.count → pc + 4 * place < 2 ^ 64) → ((c n : ℕ) → value_at no_stretch new c n ≡ with_one core pc more (value_at no_stretch old) c n) → AreSound after
   sound_more core pc more fits sets = record {
     none_single = sound.none_single;
     none_stretch = none sound.none_stretch;
@@ -31,7 +31,8 @@ module _ (singles : List (Sparse ℕ)) (old new : List (Sparse Stretch)) (sound 
           → place < (with_one core pc more (value_at no_stretch old) c n).count → n + 4 * place < 2 ^ 64
       by c n place (inl (by_core, same)) (inl (here, at)) lt =
           let in_it : place < more.count = rw (by_core, here) at lt in
-          omega (arith, in_it, fits, at)
+          let fit : pc + 4 * place < 2 ^ 64 = fits place in_it in
+          omega (arith, fit, at)
       by c n place (inl (by_core, same)) (inr (not_here, other)) lt = sound.within c n place (rw (by_core, not_here) at lt)
       by c n place (inr (no_core, other)) at lt = sound.within c n place (rw no_core at lt)
 

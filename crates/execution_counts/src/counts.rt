@@ -4,7 +4,7 @@ ghost use Rattle.sparse_table.specs.ByCore.{value_at};
 ghost use Rattle.sparse_table.specs.Next.{IsNextIn};
 ghost use Rattle.execution_counts.specs.Counted.{capped, counted, is_in_stretch, no_stretch, one_if, times_as};
 
-use crate::one_more::OneMore;
+use crate::one_more::{Again, OneMore};
 use crate::stretch::{MOST, Stretch};
 use sparse_table::by_core::{change_at, next_set, set_at, value_at};
 use sparse_table::{SparseTable, earlier};
@@ -68,27 +68,68 @@ impl ExecutionCounts {
         ensures { OnOk result ((c n : ℕ) → counted self.new c n ≡ capped (counted self.old c n + one_if (core == c && is_in_stretch pc count n))) }
     {
         let was = value_at(&self.stretches, Stretch::NONE, core, pc);
-        if count <= MOST && (was.times == 0 || was.count == count) {
-            let more = Stretch {
-                count,
-                times: was.times.saturating_add(1),
-            };
-            self.longest = self.longest.max(count);
-            set_at(
-                self.alloc,
-                &mut self.stretches,
-                Stretch::NONE,
-                core,
-                pc,
-                more,
-            )?;
+        if was.count == count && count > 0 {
+            self.add_again(core, pc)
         } else {
-            self.add_one_by_one(core, pc, count)?;
+            self.add_other_stretch(core, pc, count)
         }
+    }
+
+    /// A core executed the stretch that begins at an address once more: as many instructions as it has.
+    #[inline(always)]
+    fn add_again(&mut self, core: u16, pc: u64) -> Result<(), NoMemory>
+        ensures { OnOk result ((c n : ℕ) → counted self.new c n ≡ capped (counted self.old c n + one_if (core == c && is_in_stretch pc (value_at no_stretch self.old.stretches core pc).count n))) }
+    {
+        change_at(
+            self.alloc,
+            &mut self.stretches,
+            Stretch::NONE,
+            core,
+            pc,
+            &Again,
+        )?;
         Ok(())
     }
 
-    /// The same, one by one.
+    /// A core executed so many instructions, whatever stretch begins at the first of them. Where none was
+    /// executed there, they are one from now on, unless they are too many. A shorter one is counted once
+    /// more, and those behind it one by one. Otherwise all are counted one by one.
+    #[inline(never)]
+    fn add_other_stretch(&mut self, core: u16, pc: u64, count: u64) -> Result<(), NoMemory>
+        requires { pc + 4 * count ≤ 2 ^ 64 }
+        ensures { OnOk result ((c n : ℕ) → counted self.new c n ≡ capped (counted self.old c n + one_if (core == c && is_in_stretch pc count n))) }
+    {
+        let was = value_at(&self.stretches, Stretch::NONE, core, pc);
+        if was.times == 0 && count <= MOST {
+            self.add_new_stretch(core, pc, count)
+        } else if was.count > 0 && was.count < count {
+            self.add_again(core, pc)?;
+            self.add_one_by_one(core, pc + INSTRUCTION * was.count, count - was.count)
+        } else {
+            self.add_one_by_one(core, pc, count)
+        }
+    }
+
+    /// The same, where no stretch was executed that begins there: now they are one.
+    fn add_new_stretch(&mut self, core: u16, pc: u64, count: u64) -> Result<(), NoMemory>
+        requires fits { pc + 4 * count ≤ 2 ^ 64 }
+        requires few { count ≤ 128 }
+        requires never { (value_at no_stretch self.old.stretches core pc).times ≡ 0 }
+        ensures { OnOk result ((c n : ℕ) → counted self.new c n ≡ capped (counted self.old c n + one_if (core == c && is_in_stretch pc count n))) }
+    {
+        self.longest = self.longest.max(count);
+        set_at(
+            self.alloc,
+            &mut self.stretches,
+            Stretch::NONE,
+            core,
+            pc,
+            Stretch { count, times: 1 },
+        )?;
+        Ok(())
+    }
+
+    /// The same, counted one by one.
     #[inline(never)]
     fn add_one_by_one(&mut self, core: u16, pc: u64, count: u64) -> Result<(), NoMemory>
         requires { pc + 4 * count ≤ 2 ^ 64 }
