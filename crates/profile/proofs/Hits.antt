@@ -15,7 +15,9 @@ use Rattle.profile.specs.declared.contribution.Contribution.{Contribution}
 use Rattle.profile.specs.declared.contribution.Maker.{Maker}
 use Rattle.profile.specs.declared.copies.CopyState.{CopyState}
 use Rattle.profile.specs.declared.parts.Parts.{Parts}
-use Rattle.profile.specs.Added.{Adds, with_hit, with_wait}
+use Rattle.profile.specs.declared.added.Hit.{Hit as HitAdded}
+use Rattle.profile.specs.declared.added.Kind.{Kind}
+use Rattle.profile.specs.Added.{Adds, kind_of, with_hit, with_wait}
 use Rattle.profile.specs.Contributions.{access_adds, access_tally, suffering, suffers}
 use Rattle.profile.specs.Copies.{Copies, changes_others, copy_after, downgrades, has_other, invalidates, own_copy, reads, taken_away, writes}
 use Rattle.profile.specs.CopyTables.{copies_in}
@@ -64,7 +66,7 @@ module _ (e : Entry) (is : is_hit e.outcome ≡ true) where
       let maker : Maker = record { core = e.core; pc = pc; line = line_of e.request } in
       ap (λ (b : Bool). if b then [] else maker ∷ []) is
 
-  by_kind : (copy : CopyState) (cycles : ℕ) (t : Tally) (r : Request) → e.request ≡ r → with_hit r cycles (capped_tally t) ≡ capped_tally (plus t (access_tally e copy 0 cycles))
+  by_kind : (copy : CopyState) (cycles : ℕ) (t : Tally) (r : Request) → e.request ≡ r → with_hit (kind_of r) cycles (capped_tally t) ≡ capped_tally (plus t (access_tally e copy 0 cycles))
   unfolding access_tally capped_tally plus
   by_kind copy cycles t (Load width addr) kind = rw (kind, outcome) (simp (capped_sum, plus_zero) refl)
   by_kind copy cycles t (Store width addr value) kind = rw (kind, outcome) (simp (capped_sum, plus_zero) refl)
@@ -74,14 +76,15 @@ module _ (e : Entry) (is : is_hit e.outcome ≡ true) where
   by_kind copy cycles t (Fetch addr) kind = rw (kind, outcome) (simp (capped_sum, plus_zero) refl)
 
   -- what it adds
-  pub hit_adds : (cores : ℕ) (copies : Copies) (cycles : ℕ) → Adds (with_hit e.request cycles) (access_tally e (own_copy copies e) (taken_away cores copies e) cycles)
-  hit_adds cores copies cycles =
-      subst (λ (n : ℕ). Adds (with_hit e.request cycles) (access_tally e (own_copy copies e) n cycles)) (sym (none_taken cores copies))
-      (λ t. by_kind (own_copy copies e) cycles t e.request refl)
+  pub hit_adds : (cores : ℕ) (copies : Copies) (hit : HitAdded) (cycles : ℕ) → hit.kind ≡ kind_of e.request → hit.cycles ≡ cycles
+      → Adds (with_hit hit.kind hit.cycles) (access_tally e (own_copy copies e) (taken_away cores copies e) cycles)
+  hit_adds cores copies hit cycles kind_is cycles_are =
+      subst (λ (n : ℕ). Adds (with_hit hit.kind hit.cycles) (access_tally e (own_copy copies e) n cycles)) (sym (none_taken cores copies))
+      (λ t. ap₂ (λ (k : Kind) (n : ℕ). with_hit k n (capped_tally t)) kind_is cycles_are ∙ by_kind (own_copy copies e) cycles t e.request refl)
 
   module _ (time : Entry → ℕ) (cores : ℕ) (steps : List Step) (old new : Parts) (parts : AreParts time cores steps old)
-      (pc : ℕ) (leaving : Leaving) (line cycles : ℕ) (line_is : line ≡ line_of e.request) (cycles_are : cycles ≡ time e)
-      (added : (cs : List Contribution) (more : Tally) → Adds (with_hit e.request cycles) more → AreRows cs old.rows.addresses.items old.rows.lines.items
+      (pc : ℕ) (leaving : Leaving) (line : ℕ) (hit : HitAdded) (line_is : line ≡ line_of e.request) (kind_is : hit.kind ≡ kind_of e.request) (cycles_are : hit.cycles ≡ time e)
+      (added : (cs : List Contribution) (more : Tally) → Adds (with_hit hit.kind hit.cycles) more → AreRows cs old.rows.addresses.items old.rows.lines.items
       → AreRows (cs ++ record { core = e.core; pc = Some pc; line = line; tally = more } ∷ []) new.rows.addresses.items new.rows.lines.items)
       (passed : (f : Bool) (c n : ℕ) → copies_in new.copies.of_data.items new.copies.of_instructions.items f c n ≡ copy_after e leaving f c n (copies_in old.copies.of_data.items old.copies.of_instructions.items f c n))
       (same : new.makers ≡ old.makers) where
@@ -92,7 +95,7 @@ module _ (e : Entry) (is : is_hit e.outcome ≡ true) where
     rows cs are =
         subst (λ (n : ℕ). AreRows (cs ++ record { core = e.core; pc = Some pc; line = n; tally = access_tally e (own_copy copies e) (taken_away cores copies e) (time e) } ∷ []) new.rows.addresses.items new.rows.lines.items) line_is
         (added cs (access_tally e (own_copy copies e) (taken_away cores copies e) (time e))
-        (subst (λ (n : ℕ). Adds (with_hit e.request n) (access_tally e (own_copy copies e) (taken_away cores copies e) (time e))) (sym cycles_are) (hit_adds cores copies (time e))) are)
+        (hit_adds cores copies hit (time e) kind_is cycles_are) are)
 
     unsuffered : (cs : List Contribution) → AreRows cs new.rows.addresses.items new.rows.lines.items → AreRows (cs ++ map (suffers e) (suffering cores copies e)) new.rows.addresses.items new.rows.lines.items
     unsuffered cs are =

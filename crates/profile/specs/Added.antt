@@ -5,6 +5,8 @@ use Rattle.zs_num.specs.declared.entry.Outcome.TheVariants.{Hit, Upgrade, L2, Mi
 use Rattle.zs_num.specs.declared.request.Request.{Request}
 use Rattle.zs_num.specs.declared.request.Request.TheVariants.{Load, Store, Lr, Sc, Amo, Fetch}
 use Rattle.stats.specs.Counted.{one_if}
+use Rattle.profile.specs.declared.added.Kind.{Kind}
+use Rattle.profile.specs.declared.added.Kind.TheVariants.{Loads, Stores, Atomics, Fetches}
 use Rattle.profile.specs.declared.added.Met.{Met}
 use Rattle.profile.specs.declared.copies.CopyState.{CopyState}
 use Rattle.profile.specs.declared.copies.CopyState.TheVariants.{Never, Held, Gone}
@@ -13,18 +15,29 @@ use Rattle.profile.specs.Copies.{changes_others, reads, writes}
 use Rattle.profile_rows.specs.declared.tally.Tally.{Tally}
 use Rattle.profile_rows.specs.Tallies.{capped, capped_tally, capped_wide, plus}
 
--- one access of this kind more
-abbrev pub with_access : Request → Tally → Tally
-with_access (Load width addr) t = record t { loads = capped (t.loads + 1) }
-with_access (Store width addr value) t = record t { stores = capped (t.stores + 1) }
-with_access (Lr width addr) t = record t { atomics = capped (t.atomics + 1) }
-with_access (Sc width paired addr value) t = record t { atomics = capped (t.atomics + 1) }
-with_access (Amo width op addr value) t = record t { atomics = capped (t.atomics + 1) }
-with_access (Fetch addr) t = record t { fetches = capped (t.fetches + 1) }
+-- of which kind a request is
+abbrev pub kind_of : Request → Kind
+kind_of (Load width addr) = Loads
+kind_of (Store width addr value) = Stores
+kind_of (Lr width addr) = Atomics
+kind_of (Sc width paired addr value) = Atomics
+kind_of (Amo width op addr value) = Atomics
+kind_of (Fetch addr) = Fetches
 
--- and it hit, and takes so many cycles
-abbrev pub with_hit : Request → (cycles : ℕ) → Tally → Tally
-with_hit request cycles t = record (with_access request t) { hits = capped (t.hits + 1); cycles = capped (t.cycles + cycles) }
+-- one access of this kind more
+abbrev pub with_kind : Kind → Tally → Tally
+with_kind Loads t = record t { loads = capped (t.loads + 1) }
+with_kind Stores t = record t { stores = capped (t.stores + 1) }
+with_kind Atomics t = record t { atomics = capped (t.atomics + 1) }
+with_kind Fetches t = record t { fetches = capped (t.fetches + 1) }
+
+-- one of this request
+abbrev pub with_access : Request → Tally → Tally
+with_access request t = with_kind (kind_of request) t
+
+-- one of this kind that hits, and takes so many cycles
+abbrev pub with_hit : Kind → (cycles : ℕ) → Tally → Tally
+with_hit kind cycles t = record (with_kind kind t) { hits = capped (t.hits + 1); cycles = capped (t.cycles + cycles) }
 
 -- how it was met
 abbrev pub with_outcome : Outcome → Tally → Tally

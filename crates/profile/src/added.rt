@@ -1,6 +1,6 @@
 //! What steps add to tallies, where these are.
 ghost use Rattle.std.specs.Prelude.{◌≡◌, ◌&&◌};
-ghost use Rattle.profile.specs.Added.{with_access, with_changes, with_class, with_cycles, with_leave, with_outcome};
+ghost use Rattle.profile.specs.Added.{kind_of, with_changes, with_class, with_cycles, with_kind, with_leave, with_outcome};
 ghost use Rattle.profile.specs.Copies.{changes_others, reads, writes};
 ghost use Rattle.profile_rows.specs.Tallies.{capped_tally, plus};
 
@@ -11,21 +11,45 @@ use profile_rows::Tally;
 use sparse_table::Change;
 use zs_num::{Outcome, Request};
 
-/// A hit of a core's own cache, and how many cycles it takes. It adds to three numbers alone.
+/// In which number of a tally an access is counted. The kinds stand in the order of these numbers, so
+/// that where the number is follows from the kind without a test.
+#[derive(Clone, Copy)]
+pub(crate) enum Kind {
+    Loads,
+    Stores,
+    Atomics,
+    Fetches,
+}
+
+/// The kind of a request.
+#[inline(always)]
+pub(crate) fn kind_of(request: &Request) -> Kind
+    ensures { result ≡ kind_of request.now }
+{
+    match request {
+        Request::Load { .. } => Kind::Loads,
+        Request::Store { .. } => Kind::Stores,
+        Request::Lr { .. } | Request::Sc { .. } | Request::Amo { .. } => Kind::Atomics,
+        Request::Fetch { .. } => Kind::Fetches,
+    }
+}
+
+/// A hit of a core's own cache: of which kind it is, and how many cycles it takes. It adds to three
+/// numbers alone.
 #[derive(Clone, Copy)]
 pub(crate) struct Hit {
-    pub(crate) request: Request,
+    pub(crate) kind: Kind,
     pub(crate) cycles: u64,
 }
 
 impl Change<Tally> for Hit {
     ghost use Rattle.profile.specs.Added.{with_hit};
 
-    ghost changed = { λ hit t. with_hit hit.request hit.cycles t };
+    ghost changed = { λ hit t. with_hit hit.kind hit.cycles t };
 
     #[inline(always)]
     fn change(&self, value: &mut Tally) {
-        count_access(&self.request, value);
+        count_kind(self.kind, value);
         value.hits = value.hits.saturating_add(1);
         value.cycles = value.cycles.saturating_add(self.cycles);
     }
@@ -48,7 +72,7 @@ impl Change<Tally> for Met {
     ghost changed = { λ met t. with_met met t };
 
     fn change(&self, value: &mut Tally) {
-        count_access(&self.request, value);
+        count_kind(kind_of(&self.request), value);
         count_outcome(&self.outcome, value);
         count_class(&self.outcome, self.copy, value);
         count_changes(self, value);
@@ -85,16 +109,14 @@ impl Change<Tally> for Contribution {
 
 /// Counts an access by its kind.
 #[inline(always)]
-fn count_access(request: &Request, t: &mut Tally)
-    ensures { t.new ≡ with_access request.now t.old }
+fn count_kind(kind: Kind, t: &mut Tally)
+    ensures { t.new ≡ with_kind kind t.old }
 {
-    match request {
-        Request::Load { .. } => t.loads = t.loads.saturating_add(1),
-        Request::Store { .. } => t.stores = t.stores.saturating_add(1),
-        Request::Lr { .. } | Request::Sc { .. } | Request::Amo { .. } => {
-            t.atomics = t.atomics.saturating_add(1)
-        }
-        Request::Fetch { .. } => t.fetches = t.fetches.saturating_add(1),
+    match kind {
+        Kind::Loads => t.loads = t.loads.saturating_add(1),
+        Kind::Stores => t.stores = t.stores.saturating_add(1),
+        Kind::Atomics => t.atomics = t.atomics.saturating_add(1),
+        Kind::Fetches => t.fetches = t.fetches.saturating_add(1),
     }
 }
 

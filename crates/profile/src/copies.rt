@@ -1,10 +1,11 @@
 //! What there is of a core's copy of a line.
-ghost use Rattle.std.specs.Prelude.{◌≡◌, ◌==◌, ◌<◌, ℕ, Bool, [], if◌then◌else◌, OnOk, count_by, length};
+ghost use Rattle.std.specs.Prelude.{◌≡◌, ◌==◌, ◌<◌, ◌||◌, ℕ, Bool, [], if◌then◌else◌, OnOk, count_by, is_some, length, true};
 ghost use Rattle.std.specs.List.{range_with_len};
 ghost use Rattle.zs_num.specs.Request.{is_fetch, line_of};
 ghost use Rattle.profile.specs.Copies.{changes_others, copy_after, has_other, invalidates, is_held, is_of, is_others, is_this, left, left_l2, made_room, no_copies, reads, taken_away, when_taken, when_used, writes, downgrades, own_copy};
 ghost use Rattle.profile.specs.CopyTables.{all_left, copies_in, is_spared, one_left};
 ghost use Rattle.sparse_table.specs.ByCore.{value_at};
+ghost use Rattle.stats.specs.Counted.{is_hit};
 
 use shard::Leaving;
 use sparse_table::SparseTable;
@@ -277,6 +278,52 @@ impl Copies {
         self.hold(alloc, fetching, entry.core, line)?;
         Ok(())
     }
+
+    /// The same of a hit. It takes no copy of another core away, and where no line left for it, which
+    /// is nearly always so, it only makes sure that the core has its own.
+    #[inline(always)]
+    pub(crate) fn pass_hit(
+        &mut self,
+        alloc: Global,
+        entry: &Entry,
+        leaving: &Leaving,
+    ) -> Result<(), NoMemory>
+        requires { is_hit entry.now.outcome ≡ true }
+        ensures { OnOk result ((f : Bool) (c n : ℕ) → copies_in self.new.of_data.items self.new.of_instructions.items f c n ≡ copy_after entry.now leaving.now f c n (copies_in self.old.of_data.items self.old.of_instructions.items f c n)) }
+    {
+        if names_line(leaving) {
+            return self.pass_leaving(alloc, entry, leaving);
+        }
+        self.hold(
+            alloc,
+            entry.request.is_fetch(),
+            entry.core,
+            entry.request.line(),
+        )?;
+        Ok(())
+    }
+
+    /// The same of an access for which lines left. It stands apart, so that a hit for which none left
+    /// is short.
+    #[inline(never)]
+    fn pass_leaving(
+        &mut self,
+        alloc: Global,
+        entry: &Entry,
+        leaving: &Leaving,
+    ) -> Result<(), NoMemory>
+        ensures { OnOk result ((f : Bool) (c n : ℕ) → copies_in self.new.of_data.items self.new.of_instructions.items f c n ≡ copy_after entry.now leaving.now f c n (copies_in self.old.of_data.items self.old.of_instructions.items f c n)) }
+    {
+        self.pass(alloc, entry, leaving)
+    }
+}
+
+/// Whether a line leaves a cache.
+#[inline(always)]
+fn names_line(leaving: &Leaving) -> bool
+    ensures { result ≡ (is_some leaving.now.own || is_some leaving.now.shared) }
+{
+    leaving.own.is_some() || leaving.shared.is_some()
 }
 
 /// Whether it has to be alone with the line.

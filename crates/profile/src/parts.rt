@@ -7,7 +7,7 @@ ghost use Rattle.noc_mesh.specs.NetTiming.{net_time};
 ghost use Rattle.stats.specs.Counted.{is_hit};
 ghost use Rattle.trace.specs.Trace.{Accessed, Ended, Step};
 ghost use Rattle.profile.specs.declared.contribution.Contribution.{Contribution};
-ghost use Rattle.profile.specs.Added.{Adds, with_met};
+ghost use Rattle.profile.specs.Added.{Adds, kind_of, with_met};
 ghost use Rattle.profile.specs.Contributions.{access_adds, wait_adds};
 ghost use Rattle.profile.specs.CopyTables.{copies_in};
 ghost use Rattle.profile.specs.Makers.{of_core, queue_at, tail};
@@ -72,8 +72,7 @@ impl Parts {
         Ok(met)
     }
 
-    /// A hit, for which these lines left, and which takes so many cycles. It changes no copy of
-    /// another core, and makes no event.
+    /// A hit, for which these lines left. It changes no copy of another core, and makes no event.
     #[inline(always)]
     pub(crate) fn hit(
         &mut self,
@@ -81,16 +80,15 @@ impl Parts {
         pc: u64,
         entry: &Entry,
         leaving: &Leaving,
-        cycles: u64,
+        hit: &Hit,
     ) -> Result<(), NoMemory>
-        requires { is_hit entry.now.outcome ≡ true }
-        ensures { OnOk result ((time : Entry → ℕ) (cores : ℕ) (steps : List Step) → cycles ≡ time entry.now → AreParts time cores steps self.old → AreParts time cores (steps ++ Accessed pc entry.now leaving.now ∷ []) self.new) }
+        requires hits { is_hit entry.now.outcome ≡ true }
+        requires kind { hit.now.kind ≡ kind_of entry.now.request }
+        ensures { OnOk result ((time : Entry → ℕ) (cores : ℕ) (steps : List Step) → hit.now.cycles ≡ time entry.now → AreParts time cores steps self.old → AreParts time cores (steps ++ Accessed pc entry.now leaving.now ∷ []) self.new) }
     {
-        let request = entry.request;
-        let hit = Hit { request, cycles };
         self.rows
-            .change(alloc, entry.core, Some(pc), request.line(), &hit)?;
-        self.copies.pass(alloc, entry, leaving)?;
+            .change(alloc, entry.core, Some(pc), entry.request.line(), hit)?;
+        self.copies.pass_hit(alloc, entry, leaving)?;
         Ok(())
     }
 

@@ -2,6 +2,7 @@
 ghost use Rattle.std.specs.Prelude.{◌≡◌, ◌≤◌, ◌^◌, ◌++◌, ◌∷◌, [], ℕ, All, List, OnOk, false, length, true};
 ghost use Rattle.trace.specs.Trace.{Accessed, Ended, Executed, Step};
 ghost use Rattle.profile.specs.Executed.{executed_at};
+ghost use Rattle.execution_counts.specs.Counted.{counted};
 ghost use Rattle.noc_mesh.specs.NetTiming.{net_time};
 ghost use Rattle.stats.specs.Counted.{is_hit};
 ghost use Rattle.profile.specs.Contributions.{access_adds, at_address, at_line};
@@ -9,10 +10,11 @@ ghost use Rattle.profile.specs.CopyTables.{copies_in};
 ghost use Rattle.profile.specs.Profiled.{added_in, has_address, series_in};
 ghost use Rattle.profile.specs.Rows.{IsCandidate, IsNext, has_line};
 ghost use Rattle.profile.specs.Parts.{AreParts};
-ghost use Rattle.profile.specs.Series.{AreSeries, IsSeries, Series, nothing_open, with_interval, with_last, with_room};
+ghost use Rattle.profile.specs.Series.{AreSeries, IsSeries, Series, no_series, nothing_open, with_interval, with_last, with_room};
 ghost use Rattle.zs_num.specs.declared.entry.Entry.{Entry};
 ghost use Rattle.profile_rows.specs.Tallies.{capped, capped_tally, plus};
 
+use crate::added::{Hit, kind_of};
 use crate::met::is_hit;
 use crate::parts::Parts;
 use crate::series::SeriesRows;
@@ -146,6 +148,42 @@ impl Profile {
             || is_something(&value_at(&self.parts.rows.addresses, NONE, core, pc))
     }
 
+    /// An access that does not hit, for which these lines left. It stands apart, so that a hit is
+    /// short.
+    #[inline(never)]
+    fn missed(&mut self, pc: u64, entry: &Entry, leaving: &Leaving) -> Result<(), NoMemory>
+        requires { is_hit entry.now.outcome ≡ false }
+        ensures told { OnOk result (self.new.steps ≡ self.old.steps ++ Accessed pc entry.now leaving.now ∷ []) }
+        ensures fixed { record self.new { steps = [] } ≡ record self.old { steps = [] } }
+    {
+        let passed = miss(
+            self.alloc,
+            &mut self.parts,
+            &mut self.series,
+            &self.net,
+            self.cores,
+            pc,
+            entry,
+            leaving,
+        );
+        match passed {
+            Ok(()) => {
+                self.told = self.told.then_accessed(&pc, entry, leaving);
+                Ok(())
+            }
+            Err(no_memory) => {
+                forget(
+                    self.alloc,
+                    &mut self.told,
+                    &mut self.instructions,
+                    &mut self.parts,
+                    &mut self.series,
+                );
+                Err(no_memory)
+            }
+        }
+    }
+
     /// The rows of the intervals that ended, in order: `every` intervals each, the last one maybe
     /// fewer.
     pub fn series(&self) -> &[SeriesRow]
@@ -182,22 +220,27 @@ impl Tracer for Profile {
                 Ok(())
             }
             Err(no_memory) => {
-                self.told = Told::new();
-                self.instructions = ExecutionCounts::new(self.alloc);
-                self.parts = Parts::new(self.alloc);
-                self.series = SeriesRows::new(self.alloc);
+                forget(
+                    self.alloc,
+                    &mut self.told,
+                    &mut self.instructions,
+                    &mut self.parts,
+                    &mut self.series,
+                );
                 Err(no_memory)
             }
         }
     }
 
     fn accessed(&mut self, pc: u64, entry: &Entry, leaving: Leaving) -> Result<(), NoMemory> {
-        let passed = access(
+        if !is_hit(&entry.outcome) {
+            return self.missed(pc, entry, &leaving);
+        }
+        let passed = hit(
             self.alloc,
             &mut self.parts,
             &mut self.series,
             &self.net,
-            self.cores,
             pc,
             entry,
             &leaving,
@@ -208,10 +251,13 @@ impl Tracer for Profile {
                 Ok(())
             }
             Err(no_memory) => {
-                self.told = Told::new();
-                self.instructions = ExecutionCounts::new(self.alloc);
-                self.parts = Parts::new(self.alloc);
-                self.series = SeriesRows::new(self.alloc);
+                forget(
+                    self.alloc,
+                    &mut self.told,
+                    &mut self.instructions,
+                    &mut self.parts,
+                    &mut self.series,
+                );
                 Err(no_memory)
             }
         }
@@ -239,19 +285,43 @@ impl Tracer for Profile {
                 Ok(())
             }
             Err(no_memory) => {
-                self.told = Told::new();
-                self.instructions = ExecutionCounts::new(self.alloc);
-                self.parts = Parts::new(self.alloc);
-                self.series = SeriesRows::new(self.alloc);
+                forget(
+                    self.alloc,
+                    &mut self.told,
+                    &mut self.instructions,
+                    &mut self.parts,
+                    &mut self.series,
+                );
                 Err(no_memory)
             }
         }
     }
 }
 
-/// An access, for which these lines left.
+/// All tables are those of no step. Memory ran out, and what was told is not kept.
+#[cold]
+#[inline(never)]
+fn forget(
+    alloc: Global,
+    told: &mut Told,
+    instructions: &mut ExecutionCounts,
+    parts: &mut Parts,
+    series: &mut SeriesRows,
+)
+    ensures told { told.new.steps ≡ [] }
+    ensures instructions { (core pc : ℕ) → counted instructions.new core pc ≡ 0 }
+    ensures parts { (time : Entry → ℕ) (cores : ℕ) → AreParts time cores [] parts.new }
+    ensures series { IsSeries no_series series.new }
+{
+    *told = Told::new();
+    *instructions = ExecutionCounts::new(alloc);
+    *parts = Parts::new(alloc);
+    *series = SeriesRows::new(alloc);
+}
+
+/// An access that does not hit, for which these lines left.
 #[inline(always)]
-fn access(
+fn miss(
     alloc: Global,
     parts: &mut Parts,
     series: &mut SeriesRows,
@@ -261,19 +331,16 @@ fn access(
     entry: &Entry,
     leaving: &Leaving,
 ) -> Result<(), NoMemory>
+    requires { is_hit entry.now.outcome ≡ false }
     ensures parts { OnOk result ((steps : List Step) → AreParts (net_time net.now.path) cores steps parts.old → AreParts (net_time net.now.path) cores (steps ++ Accessed pc entry.now leaving.now ∷ []) parts.new) }
     ensures series { OnOk result ((s : Series) → IsSeries s series.old → IsSeries (record s { begun = record s.begun { tally = plus s.begun.tally (access_adds (net_time net.now.path) cores (copies_in parts.old.copies.of_data.items parts.old.copies.of_instructions.items) pc entry.now).tally } }) series.new) }
 {
-    if is_hit(&entry.outcome) {
-        hit(alloc, parts, series, net, pc, entry, leaving)?;
-    } else {
-        let met = parts.access(alloc, net, cores, pc, entry, leaving)?;
-        series.accessed(&met);
-    }
+    let met = parts.access(alloc, net, cores, pc, entry, leaving)?;
+    series.accessed(&met);
     Ok(())
 }
 
-/// The same of a hit.
+/// The same of one that hits.
 #[inline(always)]
 fn hit(
     alloc: Global,
@@ -288,9 +355,12 @@ fn hit(
     ensures parts { OnOk result ((cores : ℕ) (steps : List Step) → AreParts (net_time net.now.path) cores steps parts.old → AreParts (net_time net.now.path) cores (steps ++ Accessed pc entry.now leaving.now ∷ []) parts.new) }
     ensures series { OnOk result ((cores : ℕ) (s : Series) → IsSeries s series.old → IsSeries (record s { begun = record s.begun { tally = plus s.begun.tally (access_adds (net_time net.now.path) cores (copies_in parts.old.copies.of_data.items parts.old.copies.of_instructions.items) pc entry.now).tally } }) series.new) }
 {
-    let cycles = net.time(entry);
-    parts.hit(alloc, pc, entry, leaving, cycles)?;
-    series.hit(&entry.request, cycles);
+    let hit = Hit {
+        kind: kind_of(&entry.request),
+        cycles: net.time(entry),
+    };
+    parts.hit(alloc, pc, entry, leaving, &hit)?;
+    series.hit(&hit);
     Ok(())
 }
 

@@ -11,7 +11,7 @@ ghost use Rattle.profile_rows.specs.Tallies.{no_tally};
 use crate::contribution::Contribution;
 use crate::something::is_something;
 use profile_rows::{NONE, Tally};
-use sparse_table::by_core::{change_at, next_set, value_at};
+use sparse_table::by_core::{change_at, change_there, next_set, value_at};
 use sparse_table::{Change, SparseTable};
 use std::alloc::Global;
 use zs_num::NoMemory;
@@ -96,11 +96,32 @@ fn change_in<C: Change<Tally>>(
     ensures values { OnOk result ((c n : ℕ) → value_at no_tally tables.new.items c n ≡ (if core == c && number == n then C.changed by.now (value_at no_tally tables.old.items c n) else value_at no_tally tables.old.items c n)) }
     ensures none { HaveNone no_tally tables.old.items → HaveNone no_tally tables.new.items }
 {
+    let place = usize::from(core);
+    if place >= tables.len() {
+        return change_first(alloc, tables, core, number, by);
+    }
+    change_there(tables, NONE, place, number, by)?;
+    Ok(())
+}
+
+/// The same of a core that may have no table yet. It stands apart, since the empty tally, which new
+/// tables get, would else be written out for each change.
+#[inline(never)]
+fn change_first<C: Change<Tally>>(
+    alloc: Global,
+    tables: &mut Vec<SparseTable<Tally>>,
+    core: u16,
+    number: u64,
+    by: &C,
+) -> Result<(), NoMemory>
+    ensures values { OnOk result ((c n : ℕ) → value_at no_tally tables.new.items c n ≡ (if core == c && number == n then C.changed by.now (value_at no_tally tables.old.items c n) else value_at no_tally tables.old.items c n)) }
+    ensures none { HaveNone no_tally tables.old.items → HaveNone no_tally tables.new.items }
+{
     change_at(alloc, tables, NONE, core, number, by)?;
     Ok(())
 }
 
-/// The same, where there is a number.
+/// The same as `change_in`, where there is a number.
 #[inline(always)]
 fn change_where<C: Change<Tally>>(
     alloc: Global,

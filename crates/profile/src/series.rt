@@ -14,7 +14,7 @@ use event_graph::{Event, Fired};
 use profile_rows::{NONE, SeriesRow, Tally};
 use sparse_table::Change;
 use std::alloc::Global;
-use zs_num::{NoMemory, Request};
+use zs_num::NoMemory;
 
 /// What the instructions and the accesses of an interval count up to here.
 #[derive(Clone, Copy)]
@@ -63,15 +63,11 @@ impl SeriesRows {
         met.change(&mut self.begun.tally);
     }
 
-    /// A hit more, which takes so many cycles.
+    /// A hit more.
     #[inline(always)]
-    pub(crate) fn hit(&mut self, request: &Request, cycles: u64)
-        ensures { (s : Series) (more : Tally) → Adds (with_hit request.now cycles) more → IsSeries s self.old → IsSeries (record s { begun = record s.begun { tally = plus s.begun.tally more } }) self.new }
+    pub(crate) fn hit(&mut self, hit: &Hit)
+        ensures { (s : Series) (more : Tally) → Adds (with_hit hit.now.kind hit.now.cycles) more → IsSeries s self.old → IsSeries (record s { begun = record s.begun { tally = plus s.begun.tally more } }) self.new }
     {
-        let hit = Hit {
-            request: *request,
-            cycles,
-        };
         hit.change(&mut self.begun.tally);
     }
 

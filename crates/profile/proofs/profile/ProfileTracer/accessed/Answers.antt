@@ -10,11 +10,11 @@ invariant_of-self c =
     let p = c.self.inside in
     accessed p.net.path p.cores p.comps p.every p.told.steps c.then_accessed-self-inside.result.steps p.instructions p.parts p.series c.self.invariant
     c.args.pc c.args.entry.now c.args.leaving (access_adds (net_time p.net.path) p.cores (copies_in p.parts.copies.of_data.items p.parts.copies.of_instructions.items) c.args.pc c.args.entry.now).tally
-    c.access-passed.new.parts c.access-passed.new.series c.then_accessed-self-inside.ensures
-    (c.in-Ok.ensures.parts p.told.steps c.self.invariant.parts) refl c.in-Ok.ensures.series
+    c.hit-passed.new.parts c.hit-passed.new.series c.then_accessed-self-inside.ensures
+    (c.in-Ok.ensures.parts p.cores p.told.steps c.self.invariant.parts) refl (c.in-Ok.ensures.series p.cores)
 
 pub invariant_of-self-in-Err : goal.invariant_of-self-in-Err
 invariant_of-self-in-Err c =
     let p = c.self.inside in
-    begun p.net.path p.cores p.comps p.every c.new-self-inside.result.steps c.new.result c.new-in-Err.result c.new-in-Err-2.result
-    c.new-self-inside.ensures c.new.ensures c.new-in-Err.ensures c.new-in-Err-2.ensures
+    begun p.net.path p.cores p.comps p.every c.forget.new.told.steps c.forget.new.instructions c.forget.new.parts c.forget.new.series
+    c.forget.ensures.told c.forget.ensures.instructions c.forget.ensures.parts c.forget.ensures.series

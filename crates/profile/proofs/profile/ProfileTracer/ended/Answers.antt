@@ -13,5 +13,5 @@ invariant_of-self c =
 pub invariant_of-self-in-Err : goal.invariant_of-self-in-Err
 invariant_of-self-in-Err c =
     let p = c.self.inside in
-    begun p.net.path p.cores p.comps p.every c.new-self-inside.result.steps c.new.result c.new-in-Err.result c.new-in-Err-2.result
-    c.new-self-inside.ensures c.new.ensures c.new-in-Err.ensures c.new-in-Err-2.ensures
+    begun p.net.path p.cores p.comps p.every c.forget.new.told.steps c.forget.new.instructions c.forget.new.parts c.forget.new.series
+    c.forget.ensures.told c.forget.ensures.instructions c.forget.ensures.parts c.forget.ensures.series
