@@ -23,16 +23,17 @@ fn are_next(rt: &impl Abort, counts: &ExecutionCounts, core: u16, wanted: &[u64]
 }
 
 #[test]
-fn stretches_of_two_lengths_and_one_instruction_add_up(rt: HostRuntime) -> Result<(), Fail> {
+fn stretches_of_three_lengths_and_one_instruction_add_up(rt: HostRuntime) -> Result<(), Fail> {
     let mut counts = ExecutionCounts::new(rt.alloc());
     counts.add_stretch(0, 0x100, 3)?;
     counts.add_stretch(0, 0x100, 3)?;
     counts.add_stretch(0, 0x100, 2)?;
+    counts.add_stretch(0, 0x100, 4)?;
     counts.add(0, 0x104)?;
-    are_counts(&rt, &counts, 0, 0x0FC, &[0, 3, 4, 2, 0]);
+    are_counts(&rt, &counts, 0, 0x0FC, &[0, 4, 5, 3, 1, 0]);
     are_counts(&rt, &counts, 0, 0x102, &[0, 0, 0]);
     are_counts(&rt, &counts, 1, 0x100, &[0, 0, 0]);
-    are_next(&rt, &counts, 0, &[0x100, 0x104, 0x108]);
+    are_next(&rt, &counts, 0, &[0x100, 0x104, 0x108, 0x10C]);
     are_next(&rt, &counts, 1, &[]);
     Ok(())
 }
