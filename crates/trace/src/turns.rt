@@ -162,7 +162,7 @@ fn take_hits<T: Tracer>(
     ensures count { length cores.new ≡ length cores.old }
 {
     let core = &mut cores[usize::from(number)];
-    if core.halted().is_some() || core.clock() >= end {
+    if core.halted().is_some() || core.clock() >= end || core.core().is_fetching() {
         return Ok(0);
     }
     let taken = take_told_hits(program, net, end, number, most, core, port, way, tracer)?;
