@@ -1,5 +1,5 @@
 -- What is told of the turns of a core: its instructions, and which of them made accesses.
-use Rattle.std.specs.Prelude.{◌≡◌, ◌-◌, ◌<◌, ℕ, zero, suc, if◌then◌else◌, All, List, [], ◌∷◌, ◌++◌, length, replicate, Option}
+use Rattle.std.specs.Prelude.{◌≡◌, ◌-◌, ◌<◌, ℕ, zero, suc, false, if◌then◌else◌, All, List, [], ◌∷◌, ◌++◌, length, replicate, Option}
 use Rattle.zs_num.specs.declared.entry.Entry.{Entry}
 use Rattle.zs_num.specs.declared.entry.Outcome.TheVariants.{Hit}
 use Rattle.zs_num.specs.declared.request.Request.{Request}
@@ -41,8 +41,9 @@ module _ (time : Entry → ℕ) (image : MemoryImage) (end : ℕ) where
       told ++ told_alone image end after ≡ told_by_turns entries before ++ told_alone image end (behind_turns entries before)
 
 -- A core took so many turns of those that it might, whose accesses were hits, and went on within the turn that follows. The
--- legs of its way that came behind those that were there tell of it. Where it took as many as it might, if any, it stands
--- behind the last one.
+-- legs of its way that came behind those that were there tell of it. Where it took as many as it might, if any, a core that
+-- does not fetch stands behind the last one. One that fetches may have gone on: behind a fetch it has taken the instruction
+-- that it fetched.
 pub record TakesTold {Port : Type 0} (time : Entry → ℕ) (image : MemoryImage) (end : ℕ) (gives : Port → (start : ℕ) → Request → Entry → Port → Type 0)
     (logged_of : Port → Option (List Entry)) (number most count : ℕ) (way way_after : List Leg) (port port_after : Port) (before after : TimedCore) : Type 0 where
   pub entries : List Entry
@@ -52,4 +53,4 @@ pub record TakesTold {Port : Type 0} (time : Entry → ℕ) (image : MemoryImage
   pub tells : TellsTurns time image end told entries before after
   pub hits : All (λ e. e.outcome ≡ Hit) entries
   pub way_is : told_of way_after ≡ told_of way ++ told
-  pub stops : 0 < most → count ≡ most → after ≡ behind_turns time image end entries before
+  pub stops : before.core.fetching ≡ false → 0 < most → count ≡ most → after ≡ behind_turns time image end entries before

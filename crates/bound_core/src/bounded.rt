@@ -336,8 +336,9 @@ impl BoundCore {
     }
 
     /// The same, and it tells where the core went: the legs of its way come behind those that are
-    /// there, as long as there is room for them. Only a core that neither has a pipeline nor fetches
-    /// goes on so. Where it took `most` turns, and these are not 0, it stands behind the last one.
+    /// there, as long as there is room for them. Where it took `most` turns, and these are not 0, a
+    /// core that does not fetch stands behind the last one. One that fetches may have gone on: behind
+    /// a fetch it has taken the instruction that it fetched.
     #[inline(always)]
     pub fn take_told_hits<P: Program, X: Expand, Q: Port>(
         &mut self,
@@ -370,7 +371,7 @@ impl BoundCore {
         ensures port_l1i { Q.l1i port.new ≡ Q.l1i port.old }
         ensures port_room { Q.room port.old ≤ Q.room port.new + result }
     {
-        if self.may_tell(end) {
+        if self.may_go_on(end) {
             let stint = self.stint(expansion, end, most);
             let came = self.core.run_told_hits(program, &stint, port, way);
             self.clock = came.clock;
@@ -438,19 +439,6 @@ impl BoundCore {
         ensures line { IsTrue result → IsTrue self.now.timed.core.fetching → IsSome self.now.timed.core.fetched_line }
     {
         self.clock < end && self.pace.is_none() && self.core.may_go_on()
-    }
-
-    /// Whether the core may go on so and tell where it goes: only one that does not fetch does. One
-    /// that goes on by itself takes the instruction that it fetched, and so it would not stand right
-    /// behind the fetch.
-    #[inline(always)]
-    fn may_tell(&self, end: Cycle) -> bool
-        ensures early { IsTrue result → self.now.timed.clock < end }
-        ensures pace { IsTrue result → self.now.timed.pace ≡ None }
-        ensures idle { IsTrue result → IsTrue (is_idle self.now.timed.core) }
-        ensures plain { IsTrue result → self.now.timed.core.fetching ≡ false }
-    {
-        self.may_go_on(end) && !self.core.is_fetching()
     }
 
     /// How long it goes on by itself: to the end of the interval, with `most` accesses at most.

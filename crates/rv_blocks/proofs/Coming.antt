@@ -1,8 +1,9 @@
 -- How far a core has come by itself, and how many accesses it may still make.
-use Rattle.std.proofs.Common.{◌≡◌, ◌⊎◌, ◌+◌, ◌-◌, ◌*◌, ◌^◌, ◌≤◌, ◌<◌, ℕ, zero, suc, List, Option, Some, inl, length, refl, subst, sym, ◌∙◌, arith}
-use Rattle.std.specs.Prelude.{slice_get}
+use Rattle.std.proofs.Common.{◌≡◌, ◌⊎◌, ◌+◌, ◌-◌, ◌*◌, ◌^◌, ◌≤◌, ◌<◌, ℕ, zero, suc, List, Option, None, Some, inl, inr, length, refl, subst, sym, ◌∙◌, arith}
+use Rattle.std.specs.Prelude.{slice_get, IfSome}
 use Rattle.zs_num.specs.declared.entry.Entry.{Entry}
 use Rattle.zs_num.specs.declared.request.Request.{Request}
+use Rattle.zs_num.specs.Request.{line_at}
 use Rattle.elf_load.specs.MemoryImage.{MemoryImage}
 use Rattle.rv_core.specs.declared.memory_range.MemoryRange.{MemoryRange}
 use Rattle.rv_core.specs.declared.stint.Stint.{Stint}
@@ -105,6 +106,17 @@ module _ {Port : Type 0} (image : MemoryImage) (memory : MemoryRange) (stint : S
     room = room;
     path = (there, (here, (stands there began, (made, stands here in_time))));
   }
+
+  -- a fetch, if it was made
+  pub comes_by_fetch : (latest pc : ℕ) (left : Left) (port port_after : Port) (result : Option Left)
+      → IfSome result (λ after. (registers : List ℕ) → MakesFetch image memory stint gives core_of logged_of (moment_at stint registers pc (Some latest) left port) (moment_at stint registers pc (Some (line_at pc)) after port_after))
+      → IfSome result (λ after. after.accesses + 1 ≡ left.accesses) → room_of port ≤ room_of port_after + 1
+      → IfSome result (λ after. (registers : List ℕ) → Comes left.accesses after.accesses (moment_at stint registers pc (Some latest) left port) (moment_at stint registers pc (Some (line_at pc)) after port_after))
+  comes_by_fetch latest pc left port port_after None made fewer room = tt
+  comes_by_fetch latest pc left port port_after (Some after) made fewer room = λ registers.
+      let one : left.accesses - 1 ≡ after.accesses = omega (arith, fewer) in
+      subst (λ n. Comes left.accesses n (moment_at stint registers pc (Some latest) left port) (moment_at stint registers pc (Some (line_at pc)) after port_after)) one
+      (comes_by left.accesses _ _ (omega (arith, fewer)) (omega arith) (inr (made registers)) (omega arith) room)
 
   -- a load or a store, with the cycle of its instruction
   pub makes_hit : (first : ℕ) (slots : List Slot) → AreSlots image first slots → (place : ℕ) (slot : Slot) → slice_get slots place ≡ Some slot

@@ -1,6 +1,7 @@
 -- The line of an instruction, and its fetch.
-use Rattle.std.proofs.Common.{◌≡◌, ◌+◌, ◌-◌, ◌*◌, ◌/◌, ◌%◌, ◌<◌, ◌≤◌, ◌==◌, ℕ, true, false, Some, IsTrue, refl, arith}
+use Rattle.std.proofs.Common.{◌≡◌, ◌+◌, ◌-◌, ◌*◌, ◌/◌, ◌%◌, ◌<◌, ◌≤◌, ◌==◌, ◌≢◌, ℕ, true, false, Some, IsTrue, refl, sym, arith}
 use Rattle.std.specs.Prelude.{is_some}
+use Rattle.std.proofs.lemmas.Bool.{ne_eqb}
 use Rattle.zs_num.specs.Request.{line_at}
 use Rattle.elf_load.specs.MemoryImage.{MemoryImage, fetched_word}
 use Rattle.rv_core.specs.declared.memory_range.MemoryRange.{MemoryRange}
@@ -18,3 +19,7 @@ pub has_to_fetch : (image : MemoryImage) (memory : MemoryRange) (latest pc : ℕ
 unfolding needs_fetch
 has_to_fetch image memory latest pc other found inside core same fetching line at =
     rw (same, fetching, line, at, other, found, inside) refl
+
+-- the line of such an instruction, as a test finds it
+pub is_other : (latest pc : ℕ) → line_at pc ≢ latest → (latest == line_at pc) ≡ false
+is_other latest pc other = ne_eqb latest (line_at pc) (λ same. other (sym same))

@@ -1,5 +1,5 @@
 -- What is told of a core that goes on by itself, step by step.
-use Rattle.std.proofs.Common.{◌≡◌, ◌+◌, ◌-◌, ◌*◌, ◌≤◌, ◌<◌, ℕ, zero, suc, List, [], ◌∷◌, ◌++◌, Option, Some, None, true, false, length, inl, refl, subst, sym, ap, ◌∙◌, append-nil, append_assoc, arith}
+use Rattle.std.proofs.Common.{◌≡◌, ◌+◌, ◌-◌, ◌*◌, ◌≤◌, ◌<◌, ℕ, zero, suc, List, [], ◌∷◌, ◌++◌, Option, Some, None, true, false, length, inl, inr, refl, subst, sym, ap, ◌∙◌, append-nil, append_assoc, arith}
 use Rattle.std.specs.Prelude.{slice_get}
 use Rattle.zs_num.specs.declared.entry.Entry.{Entry}
 use Rattle.zs_num.specs.declared.request.Request.{Request}
@@ -8,7 +8,7 @@ use Rattle.rv_core.specs.declared.leg.Leg.{Leg}
 use Rattle.rv_core.specs.declared.memory_range.MemoryRange.{MemoryRange}
 use Rattle.rv_core.specs.declared.stint.Stint.{Stint}
 use Rattle.rv_core.specs.Executions.{Leads, LiesIn}
-use Rattle.rv_core.specs.Hits.{GoesOn, HasGoneOn, MakesHit, Moment, RunsOn}
+use Rattle.rv_core.specs.Hits.{GoesOn, HasGoneOn, MakesFetch, MakesHit, Moment, RunsOn}
 use Rattle.rv_core.specs.Told.{going_told, leg_told, making_told, running_told, stretch_told, told_of, EndsThere, HasToldGoing, Told, Made, Ran}
 use Rattle.rv_blocks.specs.declared.hits.Left.{Left}
 use Rattle.rv_blocks.specs.declared.slot.Slot.{Slot}
@@ -41,6 +41,10 @@ leg_made first from place reached =
     let before = stretch_told (first + 4 * from) (place - from) in
     ap (λ p. stretch_told (first + 4 * from) (place + 1 - from) ++ Made p ∷ []) last ∙ ap (λ l. l ++ Made (first + 4 * place) ∷ []) (sym (stretch_more first from place reached))
     ∙ append_assoc before (Ran (first + 4 * place) ∷ []) (Made (first + 4 * place) ∷ [])
+
+-- a leg of a fetch: no instruction, and an access
+leg_fetch : (pc : ℕ) → leg_told (record { pc = pc; count = 0; made = true }) ≡ Made pc ∷ []
+leg_fetch pc = let here : pc + 4 * (0 - 1) ≡ pc = omega arith in ap (λ p. Made p ∷ []) here
 
 -- nothing is told of no instruction
 stretch_none : (pc place : ℕ) → stretch_told pc (place - place) ≡ []
@@ -75,13 +79,13 @@ module _ {Port : Type 0} (image : MemoryImage) (memory : MemoryRange) (stint : S
     pub port : last.port ≡ here.port
     pub in_time : last.clock ≤ stint.end
 
-  -- the one of the slot at a place
-  pub is_next : (first : ℕ) (slots : List Slot) → AreSlots image first slots → (place : ℕ) (slot : Slot) → slice_get slots place ≡ Some slot
-      → (left : Left) (y z : List ℕ) (next : ℕ) (port : Port) → 0 < left.cycles → left.cycles + left.waited ≤ stint.end - stint.clock
+  -- the one of the slot at a place, which lies in the line of the latest fetch of a core that fetches
+  pub is_next_in : (first : ℕ) (slots : List Slot) → AreSlots image first slots → (place : ℕ) (slot : Slot) → slice_get slots place ≡ Some slot
+      → (line : Option ℕ) (left : Left) (y z : List ℕ) (next : ℕ) (port : Port) → LiesIn line (first + 4 * place) → 0 < left.cycles → left.cycles + left.waited ≤ stint.end - stint.clock
       → Some (record { registers = z; place = next }) ≡ does (name_of slot) (record { first = first; count = length slots }) slot (record { registers = y; place = place })
-      → IsNext (moment_at stint y (first + 4 * place) None left port) (moment_at stint z (first + 4 * next) None (record left { cycles = left.cycles - 1 }) port)
-  is_next first slots are place slot here left y z next port some paid value = record {
-    lies = tt;
+      → IsNext (moment_at stint y (first + 4 * place) line left port) (moment_at stint z (first + 4 * next) line (record left { cycles = left.cycles - 1 }) port)
+  is_next_in first slots are place slot here line left y z next port lies some paid value = record {
+    lies = lies;
     leads = leads_by image first slots are place slot here y z next value;
     line = refl;
     clock = omega (arith, some, paid);
@@ -89,6 +93,13 @@ module _ {Port : Type 0} (image : MemoryImage) (memory : MemoryRange) (stint : S
     port = refl;
     in_time = omega arith;
   }
+
+  -- the same of a core that does not fetch
+  pub is_next : (first : ℕ) (slots : List Slot) → AreSlots image first slots → (place : ℕ) (slot : Slot) → slice_get slots place ≡ Some slot
+      → (left : Left) (y z : List ℕ) (next : ℕ) (port : Port) → 0 < left.cycles → left.cycles + left.waited ≤ stint.end - stint.clock
+      → Some (record { registers = z; place = next }) ≡ does (name_of slot) (record { first = first; count = length slots }) slot (record { registers = y; place = place })
+      → IsNext (moment_at stint y (first + 4 * place) None left port) (moment_at stint z (first + 4 * next) None (record left { cycles = left.cycles - 1 }) port)
+  is_next first slots are place slot here left y z next port some paid value = is_next_in first slots are place slot here None left y z next port tt some paid value
 
   abbrev runs_more : (there here last : Moment Port) → Runs there here → IsNext here last → Runs there last
   runs_more there here last first next = record {
@@ -161,16 +172,64 @@ module _ {Port : Type 0} (image : MemoryImage) (memory : MemoryRange) (stint : S
         stops = λ none. refl;
       }
 
+  -- a fetch is made
+  has_fetch : (before after left : ℕ) (there here last : Moment Port) (legs legs_after : List Leg) (untold : List Told) → Has before after there here legs legs_after untold
+      → MakesFetch image memory stint gives core_of logged_of here last → left + 1 ≡ after → room_of here.port ≤ room_of last.port + 1
+      → Has before left there last legs legs_after (untold ++ Made here.pc ∷ [])
+  has_fetch before after left there here last legs legs_after untold has fetch one room =
+      let come = has.come in
+      let stands : Runs last last = record { instructions = 0; leads = (refl, refl); line = refl; clock = omega arith; count = omega arith; port = refl; in_time = omega (arith, fetch.in_time) } in
+      record {
+        come = record {
+          made = suc come.made;
+          few = omega (arith, come.few, one);
+          room = omega (arith, come.room, room);
+          path = (here, (last, (come.path, (inr fetch, stands))));
+        };
+        is = adds legs legs_after untold (told_going come.made there here come.path) (Made here.pc ∷ []) _ has.is refl;
+        stops = λ none. refl;
+      }
+
   -- ---- what is told of it
+
+  -- nothing is told of a core that has not gone on
+  pub has_begun : (accesses : ℕ) (there here : Moment Port) (legs : List Leg) (pc place : ℕ)
+      → here.registers ≡ there.registers → here.pc ≡ there.pc → here.line ≡ there.line → here.clock ≡ there.clock → here.count ≡ there.count → here.port ≡ there.port → here.clock ≤ stint.end
+      → Has accesses accesses there here legs legs (stretch_told pc (place - place))
+  has_begun accesses there here legs pc place registers stands line clock count port in_time = record {
+    come = record {
+      made = 0;
+      few = omega arith;
+      room = subst (λ p. room_of there.port ≤ room_of p + 0) (sym port) (omega arith);
+      path = record { instructions = 0; leads = (registers, stands); line = line; clock = omega (arith, clock); count = omega (arith, count); port = port; in_time = in_time };
+    };
+    is = ap (λ l. told_of legs ++ l) (stretch_none pc place);
+    stops = λ none. tt;
+  }
+
+  -- all is told
+  pub has_all : (before after : ℕ) (there here : Moment Port) (legs legs_now legs_after : List Leg) (untold : List Told) (pc place : ℕ) → Has before after there here legs legs_now untold
+      → told_of legs_after ≡ told_of legs_now ++ untold → Has before after there here legs legs_after (stretch_told pc (place - place))
+  has_all before after there here legs legs_now legs_after untold pc place has told = record {
+    come = has.come;
+    is = ap (λ l. told_of legs_after ++ l) (stretch_none pc place) ∙ append-nil (told_of legs_after) ∙ told ∙ has.is;
+    stops = has.stops;
+  }
+
+  -- all is told, and then a fetch by a leg of its own
+  pub has_fetched : (before after left : ℕ) (there here last : Moment Port) (legs legs_now legs_after : List Leg) (untold : List Told) (pc place : ℕ) → Has before after there here legs legs_now untold
+      → MakesFetch image memory stint gives core_of logged_of here last → left + 1 ≡ after → room_of here.port ≤ room_of last.port + 1
+      → told_of legs_after ≡ (told_of legs_now ++ untold) ++ leg_told (record { pc = here.pc; count = 0; made = true })
+      → Has before left there last legs legs_after (stretch_told pc (place - place))
+  has_fetched before after left there here last legs legs_now legs_after untold pc place has fetch one room told =
+      has_all before left there last legs legs_now legs_after (untold ++ Made here.pc ∷ []) pc place (has_fetch before after left there here last legs legs_now untold has fetch one room)
+      (told ∙ ap (λ l. (told_of legs_now ++ untold) ++ l) (leg_fetch here.pc) ∙ append_assoc (told_of legs_now) untold (Made here.pc ∷ []))
 
   -- a leg is told, and nothing behind it
   has_leg : (before after : ℕ) (there here : Moment Port) (legs legs_now legs_after : List Leg) (leg : Leg) (untold : List Told) (pc place : ℕ) → Has before after there here legs legs_now untold
       → leg_told leg ≡ untold → told_of legs_after ≡ told_of legs_now ++ leg_told leg → Has before after there here legs legs_after (stretch_told pc (place - place))
-  has_leg before after there here legs legs_now legs_after leg untold pc place has same told = record {
-    come = has.come;
-    is = ap (λ l. told_of legs_after ++ l) (stretch_none pc place) ∙ append-nil (told_of legs_after) ∙ told ∙ ap (λ l. told_of legs_now ++ l) same ∙ has.is;
-    stops = has.stops;
-  }
+  has_leg before after there here legs legs_now legs_after leg untold pc place has same told =
+      has_all before after there here legs legs_now legs_after untold pc place has (told ∙ ap (λ l. told_of legs_now ++ l) same)
 
   module _ (first : ℕ) (from place : ℕ) (reached : from ≤ place) (before after : ℕ) (there : Moment Port) (legs legs_now : List Leg) where
     -- a leg goes on

@@ -12,6 +12,7 @@ use crate::making::slots_of;
 use crate::perform::place_of;
 use crate::slot::Slot;
 use crate::told_hits::by_told_hits;
+use crate::told_lines::by_told_lines;
 use elf_load::{Image, Segment};
 use rv_core::{Came, Fetched, Leg, MemoryRange, Port, Program, Ran, Single, Stint};
 use rv_decode::Inst;
@@ -313,6 +314,12 @@ impl Program for DecodedProgram<'_> {
             (None, Some(place)) => {
                 let gone = by_told_hits::<Q>(
                     image, slots, first, registers, place, memory, stint, port, way,
+                );
+                came_by(first, stint, gone, None)
+            }
+            (Some(latest), Some(place)) => {
+                let gone = by_told_lines::<Q>(
+                    image, slots, first, registers, place, latest, memory, stint, port, way,
                 );
                 came_by(first, stint, gone, None)
             }

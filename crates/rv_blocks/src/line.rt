@@ -3,6 +3,7 @@ ghost use Rattle.std.specs.Prelude.{◌≡◌, ◌≢◌, ◌+◌, ◌-◌, ◌*
 ghost use Rattle.elf_load.specs.MemoryImage.{fetched_word};
 ghost use Rattle.zs_num.specs.Request.{line_at};
 ghost use Rattle.rv_core.specs.Executions.{LeadsTo};
+ghost use Rattle.rv_core.specs.Hits.{MakesFetch};
 ghost use Rattle.rv_blocks.specs.Coming.{moment_at, HasCome};
 ghost use Rattle.rv_blocks.specs.Flows.{is_access_flow, is_apart, AccessesAt};
 ghost use Rattle.rv_blocks.specs.Slots.{is_ebreak, AreSlots};
@@ -55,6 +56,43 @@ pub(crate) fn fetched<Q: Port>(
     if pc / LINE == latest {
         return Some(left);
     }
+    fetched_anew::<Q>(_image, slot, pc, latest, memory, stint, left, port)
+}
+
+/// The same of an address whose line is not that of the latest fetch: it fetches the instruction
+/// there, or nothing was done.
+#[inline(always)]
+pub(crate) fn fetched_anew<Q: Port>(
+    _image: &Image,
+    slot: &Slot,
+    pc: u64,
+    _latest: u64,
+    memory: &MemoryRange,
+    stint: &Stint,
+    left: Left,
+    port: &mut Q,
+) -> Option<Left>
+    requires other { line_at pc ≢ _latest }
+    requires found { is_ebreak slot.now.name ≡ false → IsTrue (is_some (fetched_word _image.now.segments pc)) }
+    requires aligned { pc % 4 ≡ 0 }
+    requires reach { memory.now.base + memory.now.size ≤ 2 ^ 48 }
+    requires base { Q.base port.old ≡ memory.now.base }
+    requires size { Q.size port.old ≡ memory.now.size }
+    requires l1i { IsTrue (Q.l1i port.old) }
+    requires room { 0 < left.accesses → 1 ≤ Q.room port.old }
+    requires begins { stint.now.clock ≤ stint.now.end }
+    requires left { left.cycles + left.waited ≤ stint.now.end - stint.now.clock }
+    ensures made { IfSome result (λ after. (registers : List ℕ) → MakesFetch _image.now memory.now stint.now Q.gives Q.core Q.logged (moment_at stint.now registers pc (Some _latest) left port.old) (moment_at stint.now registers pc (Some (line_at pc)) after port.new)) }
+    ensures left { IfSome result (λ after. after.cycles + after.waited ≡ left.cycles + left.waited) }
+    ensures fewer { IfSome result (λ after. after.cycles ≤ left.cycles) }
+    ensures accesses { IfSome result (λ after. after.accesses + 1 ≡ left.accesses) }
+    ensures none { IfNone result (port.new ≡ port.old) }
+    ensures port_core { Q.core port.new ≡ Q.core port.old }
+    ensures port_base { Q.base port.new ≡ Q.base port.old }
+    ensures port_size { Q.size port.new ≡ Q.size port.old }
+    ensures port_l1i { Q.l1i port.new ≡ Q.l1i port.old }
+    ensures port_room { Q.room port.old ≤ Q.room port.new + 1 }
+{
     if left.cycles <= stint.fetch_hit
         || left.accesses == 0
         || is_ebreak(slot.name)

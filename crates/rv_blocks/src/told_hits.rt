@@ -16,9 +16,9 @@ use rv_core::{Leg, MemoryRange, Port, Stint};
 /// Where a core is that tells where it went: what it executed from the slot of a place on is not
 /// told yet.
 #[derive(Clone, Copy)]
-struct Untold {
-    gone: Gone,
-    from: usize,
+pub(crate) struct Untold {
+    pub gone: Gone,
+    pub from: usize,
 }
 
 /// The loop of a core that tells where it went, as a type.
@@ -155,7 +155,7 @@ fn by_legs<Q: Port>(
 /// Tells of so many instructions from the one of the slot at a place on, and whether the last one
 /// made an access.
 #[inline(always)]
-fn tell(way: &mut Vec<Leg>, first: u64, from: usize, count: usize, made: bool)
+pub(crate) fn tell(way: &mut Vec<Leg>, first: u64, from: usize, count: usize, made: bool)
     requires code { first + 4 * from ≤ 2 ^ 48 }
     requires room { vec_len way.old < vec_capacity way.old }
     ensures told { told_of way.new.items ≡ told_of way.old.items ++ leg_told (record { pc = first + 4 * from; count = count; made = made }) }

@@ -13,7 +13,7 @@ use Rattle.run.specs.declared.simulation.Simulation.{Simulation}
 use Rattle.run.specs.IntervalWeave.{AreEventsOf}
 use Rattle.reference.specs.ReferenceRun.{RunState}
 use Rattle.run.specs.Simulation.{HasNextInterval, IsBoundPhase}
-use Rattle.trace.specs.TracedRun.{HasFired}
+use Rattle.trace.specs.TracedRun.{HasBounded, HasFired}
 
 -- the bound phase leaves the components as they were, so it is one for other components too
 pub other_comps : (machine : Machine) (image : MemoryImage) (end : ℕ) (before : Simulation) (turns : List ℕ) (p : Simulation) (entries : List Entry) (comps : List Comp)
@@ -52,3 +52,10 @@ has_fired machine image end s turns before p entries graph fired after goes boun
   };
   counters = counters;
 }
+
+-- the same, where the bound phase is that of a run
+pub fired_behind : (machine : Machine) (image : MemoryImage) (s : RunState) (turns : List ℕ) (p : Simulation) (entries : List Entry) (graph : List Event) (fired : List Fired) (after : List Comp)
+    → HasBounded machine image s turns p entries → AreEventsOf machine p.comps entries graph → fired ≡ map fired_of (woven comp_step graph p.comps) → after ≡ comps_after comp_step graph p.comps
+    → HasFired machine image s turns (record p { comps = after }) entries graph fired
+fired_behind machine image s turns p entries graph fired after h =
+    has_fired machine image h.end s turns h.before p entries graph fired after h.goes_on h.bounded h.comps h.counters h.room.components

@@ -1,10 +1,15 @@
 pub mod Addresses
 pub mod AloneTold
+pub mod BegunInterval
 pub mod BoundPhase
+pub mod CoresInTurn
 pub mod FiredInterval
 pub mod GoingAhead
 pub mod HitsLeave
+pub mod KeptInTurn
+pub mod LastMade
 pub mod MachineSteps
+pub mod OwnTurns
 pub mod PhaseCounts
 pub mod PhaseStamps
 pub mod PhaseTold
@@ -21,7 +26,9 @@ pub mod StretchTold
 pub mod Stretches
 pub mod TakingHits
 pub mod TakingTurns
+pub mod TimelyTurns
 pub mod ToldParts
 pub mod TurnTold
 pub mod TurnsBegin
+pub mod Untold
 pub mod WayTold

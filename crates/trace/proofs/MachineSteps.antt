@@ -67,6 +67,17 @@ module _ (machine : Machine) (image : MemoryImage) (end : ℕ) (s : RunState) (p
       ∙ ap (λ (es : List Entry). whole ++ Ended (woven_interval machine s.comps es) ∷ []) order
       ∙ ap (λ (o : Result (BoundState MachineWorld) ℕ). whole ++ end_step machine s o) (sym run.1)
 
+  -- Behind what was told before they are those of the whole interval.
+  pub all_told : (left : BoundState ShardWorld) → bound_phase shards_serve (time_of machine) image end turns before ≡ Ok left → (entries : List Entry) → entries ≡ recorded_order left.entries
+      → (earlier told later : List Step) → told ≡ earlier ++ phase_steps shards_serve leaves_shards image end (time_of machine) turns before
+      → later ≡ told ++ Ended (woven_interval machine s.comps entries) ∷ [] → later ≡ earlier ++ interval_steps machine image s turns
+  all_told left phase entries sorted earlier told later steps ends =
+      let last : List Step = Ended (woven_interval machine s.comps entries) ∷ [] in
+      ends
+      ∙ ap (λ (ss : List Step). ss ++ last) steps
+      ∙ append_assoc earlier (phase_steps shards_serve leaves_shards image end (time_of machine) turns before) last
+      ∙ ap (λ (ss : List Step). earlier ++ ss) (interval_told left phase entries sorted)
+
 -- ---- intervals, one after the other
 
 -- where no list was refused

@@ -131,7 +131,7 @@ hits_room time image end most first turns cores port number accesses h within fe
 
 module _ (time : Entry → ℕ) (image : MemoryImage) (end number : ℕ) where
   -- that of one, with what is told of those behind it
-  one_told : (c behind : TimedCore) (e : Entry) (entries : List Entry) → behind ≡ core_after_access time e (ran_to image end c)
+  pub one_told : (c behind : TimedCore) (e : Entry) (entries : List Entry) → behind ≡ core_after_access time e (ran_to image end c)
       → told_steps number (told_by_turns time image end (e ∷ entries) c) (e ∷ entries)
       ≡ (steps_alone image end number c ++ Accessed (ran_to image end c).core.pc e nothing_leaves ∷ []) ++ told_steps number (told_by_turns time image end entries behind) entries
   one_told c behind e entries is =
@@ -142,19 +142,23 @@ module _ (time : Entry → ℕ) (image : MemoryImage) (end number : ℕ) where
       ∙ (ap (λ (x : TimedCore). alone ++ (access ++ told_steps number (told_by_turns time image end entries x) entries)) (sym is)
       ∙ sym (append_assoc alone access (told_steps number (told_by_turns time image end entries behind) entries)))
 
-  -- a turn whose access was a hit
-  hit_turn : (port next : LoggedPortState) (c behind : TimedCore) (e : Entry) → TakesOne time image end Gives logged_of number port next c behind e → e.outcome ≡ Hit
-      → turn_steps shards_serve leaves_shards image end port.world number c ≡ steps_alone image end number c ++ Accessed (ran_to image end c).core.pc e nothing_leaves ∷ []
-  hit_turn port next c behind e one hit =
+  -- an access that was a hit, of a core that comes to it
+  pub hit_access : (port next : LoggedPortState) (c behind : TimedCore) (e : Entry) → TakesOne time image end Gives logged_of number port next c behind e → e.outcome ≡ Hit
+      → map (access_step shards_serve leaves_shards image end port.world number (ran_to image end c)) (option_to_list (asks (ran_to image end c))) ≡ Accessed (ran_to image end c).core.pc e nothing_leaves ∷ []
+  hit_access port next c behind e one hit =
       let ran : TimedCore = ran_to image end c in
       let request = one.turn.request in
       let served : (e, next.world) ≡ shards_serve port.world number ran.clock request =
       answers port next ran.clock request e one.turn.given ∙ ap (λ (n : ℕ). shards_serve port.world n ran.clock request) one.core
       in
-      let alone = steps_alone image end number c in
-      ap (λ (asked : Option Request). alone ++ map (access_step shards_serve leaves_shards image end port.world number ran) (option_to_list asked)) one.turn.asked
-      ∙ (ap (λ (answer : Entry × ShardWorld). alone ++ Accessed ran.core.pc answer.0 (leaves_shards port.world number request) ∷ []) (sym served)
-      ∙ ap (λ leaving. alone ++ Accessed ran.core.pc e leaving ∷ []) (none_leave port.world next.world number ran.clock request e served hit))
+      ap (λ (asked : Option Request). map (access_step shards_serve leaves_shards image end port.world number ran) (option_to_list asked)) one.turn.asked
+      ∙ (ap (λ (answer : Entry × ShardWorld). Accessed ran.core.pc answer.0 (leaves_shards port.world number request) ∷ []) (sym served)
+      ∙ ap (λ leaving. Accessed ran.core.pc e leaving ∷ []) (none_leave port.world next.world number ran.clock request e served hit))
+
+  -- a turn whose access was a hit
+  hit_turn : (port next : LoggedPortState) (c behind : TimedCore) (e : Entry) → TakesOne time image end Gives logged_of number port next c behind e → e.outcome ≡ Hit
+      → turn_steps shards_serve leaves_shards image end port.world number c ≡ steps_alone image end number c ++ Accessed (ran_to image end c).core.pc e nothing_leaves ∷ []
+  hit_turn port next c behind e one hit = ap (λ (access : List Step). steps_alone image end number c ++ access) (hit_access port next c behind e one hit)
 
   -- the core that has gone on is in the same turn as the one behind them
   pub same_turn : (entries : List Entry) (port port_after : LoggedPortState) (c last : TimedCore) → TakesThese time image end Gives logged_of number entries port port_after c last

@@ -36,10 +36,11 @@ halted_stops : (end : ℕ) (c : TimedCore) (halted : Option Why) → c.core.halt
 halted_stops end c None e some = cc
 halted_stops end c (Some why) e some = rw e refl
 
+pub over_stops : (end : ℕ) (c : TimedCore) → IsOver end c → goes_on_alone end c ≡ false
+over_stops end c over = elim over.over [ inl halted ↦ halted_stops end c c.core.halted refl halted | inr late ↦ late_stops end c late.0 late.1 ]
+
 pub over_asks : (image : MemoryImage) (end : ℕ) (c : TimedCore) → IsOver end c → asks (ran_to image end c) ≡ None
-over_asks image end c over =
-    let stops : goes_on_alone end c ≡ false = elim over.over [ inl halted ↦ halted_stops end c c.core.halted refl halted | inr late ↦ late_stops end c late.0 late.1 ] in
-    ap asks (ran_stays image end c stops) ∙ ap next_request over.idle
+over_asks image end c over = ap asks (ran_stays image end c (over_stops end c over)) ∙ ap next_request over.idle
 
 not_both : {A : Type 0} (o : Option A) (x : A) → o ≡ None → o ≡ Some x → ⊥
 not_both None x none some = cc

@@ -97,7 +97,7 @@ pub all_left : {X : Type 0} (P : X → Type 0) (xs ys : List X) → All P (xs ++
 all_left P [] ys all = All-nil P
 all_left P (x ∷ xs) ys all = All-cons P x xs (all 0 x (omega arith)) (all_left P xs ys (λ k d below. all (suc k) d (omega (arith, below))))
 
-all_right : {X : Type 0} (P : X → Type 0) (xs ys : List X) → All P (xs ++ ys) → All P ys
+pub all_right : {X : Type 0} (P : X → Type 0) (xs ys : List X) → All P (xs ++ ys) → All P ys
 all_right P [] ys all = all
 all_right P (x ∷ xs) ys all = all_right P xs ys (λ k d below. all (suc k) d (omega (arith, below)))
 

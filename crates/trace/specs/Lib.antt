@@ -1,3 +1,5 @@
+pub mod EachCore
+pub mod InTurn
 pub mod Laws
 pub mod Port
 pub mod Told

@@ -8,7 +8,7 @@ use Rattle.event_graph.specs.declared.fired.Fired.{Fired}
 use Rattle.bound_records.specs.Recorders.{core_room}
 use Rattle.reference.specs.ReferenceRun.{RunState}
 use Rattle.run.specs.IntervalWeave.{HaveFired}
-use Rattle.run.specs.Simulation.{HasNextInterval, IsBoundPhase}
+use Rattle.run.specs.Simulation.{HasNextInterval, HasRoomForInterval, IsBoundPhase}
 use Rattle.run.specs.declared.simulation.Simulation.{Simulation}
 use Rattle.trace.specs.declared.traced_run.TracedRun.{TracedRun}
 
@@ -20,6 +20,16 @@ as_run machine p = record {
   comps = p.comps;
   counters = p.counters;
 }
+
+-- The run has the bound phase of its next interval behind it, under these turns and with these entries.
+pub record HasBounded (machine : Machine) (image : MemoryImage) (s : RunState) (turns : List ℕ) (p : Simulation) (entries : List Entry) : Type 0 where
+  pub end : ℕ
+  pub before : Simulation
+  pub goes_on : HasNextInterval machine end s before
+  pub room : HasRoomForInterval machine end before
+  pub bounded : IsBoundPhase machine image end before turns p entries
+  pub comps : p.comps ≡ before.comps
+  pub counters : p.counters ≡ before.counters
 
 -- The run has the bound phase of its next interval behind it, under these turns and with these entries, and the events
 -- of these have fired.

@@ -1,5 +1,5 @@
 -- What the turns of an interval keep, in whatever order the cores take them.
-use Rattle.std.specs.Prelude.{◌≡◌, ◌⊎◌, ℕ, ◌+◌, ◌^◌, ◌<◌, ◌≤◌, min, Bool, IsTrue, List, [], ◌∷◌, ◌++◌, length, slice_get, sum_by, Some, Ok, All}
+use Rattle.std.specs.Prelude.{◌≡◌, ◌⊎◌, ℕ, ◌+◌, ◌^◌, ◌<◌, ◌≤◌, min, Bool, false, IsTrue, List, [], ◌∷◌, ◌++◌, length, slice_get, sum_by, Some, Ok, All}
 use Rattle.zs_num.specs.declared.entry.Entry.{Entry}
 use Rattle.zs_num.specs.declared.entry.Outcome.TheVariants.{Hit}
 use Rattle.elf_load.specs.MemoryImage.{MemoryImage}
@@ -78,7 +78,8 @@ pub record TakesNone (image : MemoryImage) (end : ℕ) (port port_after : Logged
   pub spare : after.spare ≡ core.spare
 
 -- What so many turns do, of those that might be taken, whose accesses are hits, and instructions of the turn that follows,
--- and what is told of them. Where they are as many as might be taken, if any, the core stands behind the last one.
+-- and what is told of them. Where they are as many as might be taken, if any, a core that does not fetch stands behind the
+-- last one.
 pub record TakesHits (time : Entry → ℕ) (image : MemoryImage) (end most count : ℕ) (port port_after : LoggedPortState) (core after : NumberedCore) (steps steps_after : List Step) : Type 0 where
   pub entries : List Entry
   pub told : List Told
@@ -87,7 +88,7 @@ pub record TakesHits (time : Entry → ℕ) (image : MemoryImage) (end most coun
   pub hits : All (λ e. e.outcome ≡ Hit) entries
   pub tells : TellsTurns time image end told entries core.timed after.timed
   pub are : steps_after ≡ steps ++ told_steps core.number told entries
-  pub stops : 0 < most → count ≡ most → after.timed ≡ behind_turns time image end entries core.timed
+  pub stops : core.timed.core.fetching ≡ false → 0 < most → count ≡ most → after.timed ≡ behind_turns time image end entries core.timed
   pub number : after.number ≡ core.number
   pub spare : after.spare ≡ core.spare
 

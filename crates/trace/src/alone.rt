@@ -1,28 +1,29 @@
-//! What a core does by itself, as it is told.
-ghost use Rattle.std.specs.Prelude.{◌≡◌, ◌*◌, ◌<◌, ◌≤◌, ◌^◌, ◌++◌, [], false, true, if◌then◌else◌, IfOk, OnOk};
+//! What a core does by itself, leg by leg.
+ghost use Rattle.std.specs.Prelude.{◌≡◌, ◌+◌, ◌-◌, ◌*◌, ◌<◌, ◌≤◌, ◌^◌, ◌++◌, ℕ, [], All, false, true, if◌then◌else◌, IfOk, OnOk};
 ghost use Rattle.bound_core.specs.IntervalBounds.{latest_clock, most_accesses, steps_left};
 ghost use Rattle.bound_core.specs.TimedCore.{after_instruction, goes_on_alone, ran_to};
-ghost use Rattle.trace.specs.Trace.{executed_by, steps_alone};
+ghost use Rattle.trace.specs.EachCore.{untold_steps};
+ghost use Rattle.trace.specs.Trace.{executed_by, steps_alone, stretch_steps};
+ghost use Rattle.trace.specs.Ways.{FitsLeg};
 
-use crate::Tracer;
 use bound_core::BoundCore;
 use rv_blocks::DecodedProgram;
+use rv_core::Leg;
 use zs_num::{Cycle, NoMemory};
 
-/// Has the core of this number go on by itself, up to an access, a halt or the end of the interval,
-/// and tells each instruction that it executes.
-pub fn run_alone<T: Tracer>(
+/// Has a core go on by itself, up to an access, a halt or the end of the interval. The legs of its
+/// way, which tell each instruction that it executes, come behind those that are there.
+pub fn run_alone(
     program: &DecodedProgram<'_>,
     end: Cycle,
-    number: u16,
     core: &mut BoundCore,
-    tracer: &mut T,
+    way: &mut Vec<Leg>,
 ) -> Result<(), NoMemory>
     requires end { end ≤ 10 * 2 ^ 30 }
     requires clock { latest_clock end core.old.timed ≤ 2 ^ 57 }
     ensures ran { OnOk result (core.new.timed ≡ ran_to program.now end core.old.timed) }
-    ensures told { OnOk result (T.steps tracer.new ≡ T.steps tracer.old ++ steps_alone program.now end number core.old.timed) }
-    ensures fixed { T.fixed tracer.new ≡ T.fixed tracer.old }
+    ensures tells { OnOk result ((number : ℕ) → untold_steps number way.new.items ≡ untold_steps number way.old.items ++ steps_alone program.now end number core.old.timed) }
+    ensures fits { All FitsLeg way.old.items → All FitsLeg way.new.items }
     ensures latest { latest_clock end core.new.timed ≤ latest_clock end core.old.timed }
     ensures no_more { most_accesses end core.new.timed ≤ most_accesses end core.old.timed }
     ensures number { core.new.number ≡ core.old.number }
@@ -32,7 +33,7 @@ pub fn run_alone<T: Tracer>(
 {
     let mut goes_on = true;
     while goes_on {
-        let more = tell_more(program, end, number, core, tracer)?;
+        let more = run_more(program, end, core, way)?;
         goes_on = more && core.core().is_free();
     }
     Ok(())
@@ -40,21 +41,20 @@ pub fn run_alone<T: Tracer>(
 
 /// Instructions that follow each other, or else the next one. Answers whether the core went on.
 #[inline(always)]
-fn tell_more<T: Tracer>(
+fn run_more(
     program: &DecodedProgram<'_>,
     end: Cycle,
-    number: u16,
     core: &mut BoundCore,
-    tracer: &mut T,
+    way: &mut Vec<Leg>,
 ) -> Result<bool, NoMemory>
     requires end { end ≤ 10 * 2 ^ 30 }
     requires clock { latest_clock end core.old.timed ≤ 2 ^ 57 }
     ensures same_end { OnOk result (ran_to program.now end core.new.timed ≡ ran_to program.now end core.old.timed) }
-    ensures told { OnOk result (T.steps tracer.new ++ steps_alone program.now end number core.new.timed ≡ T.steps tracer.old ++ steps_alone program.now end number core.old.timed) }
+    ensures tells { OnOk result ((number : ℕ) → untold_steps number way.new.items ++ steps_alone program.now end number core.new.timed ≡ untold_steps number way.old.items ++ steps_alone program.now end number core.old.timed) }
     ensures stopped { IfOk result (λ on. on ≡ false → goes_on_alone end core.new.timed ≡ false) }
     ensures nearer { IfOk result (λ on. on ≡ true → steps_left end core.new.timed < steps_left end core.old.timed) }
     ensures stays { IfOk result (λ on. on ≡ false → core.new ≡ core.old) }
-    ensures fixed { T.fixed tracer.new ≡ T.fixed tracer.old }
+    ensures fits { All FitsLeg way.old.items → All FitsLeg way.new.items }
     ensures latest { latest_clock end core.new.timed ≤ latest_clock end core.old.timed }
     ensures no_more { most_accesses end core.new.timed ≤ most_accesses end core.old.timed }
     ensures number { core.new.number ≡ core.old.number }
@@ -62,30 +62,29 @@ fn tell_more<T: Tracer>(
     ensures fetching { core.new.timed.core.fetching ≡ core.old.timed.core.fetching }
     ensures spare { core.new.spare ≡ core.old.spare }
 {
-    if tell_stretch(program, end, number, core, tracer)? {
+    if run_stretch(program, end, core, way)? {
         return Ok(true);
     }
-    let goes_on = tell_step(program, end, number, core, tracer)?;
+    let goes_on = run_step(program, end, core, way)?;
     Ok(goes_on)
 }
 
 /// Instructions that follow each other and change registers alone, as far as the program knows
-/// them: they are told at once. Answers whether there were any.
+/// them: they are one leg. Answers whether there were any.
 #[inline(always)]
-fn tell_stretch<T: Tracer>(
+fn run_stretch(
     program: &DecodedProgram<'_>,
     end: Cycle,
-    number: u16,
     core: &mut BoundCore,
-    tracer: &mut T,
+    way: &mut Vec<Leg>,
 ) -> Result<bool, NoMemory>
     requires end { end ≤ 10 * 2 ^ 30 }
     requires clock { latest_clock end core.old.timed ≤ 2 ^ 57 }
     ensures same_end { OnOk result (ran_to program.now end core.new.timed ≡ ran_to program.now end core.old.timed) }
-    ensures told { OnOk result (T.steps tracer.new ++ steps_alone program.now end number core.new.timed ≡ T.steps tracer.old ++ steps_alone program.now end number core.old.timed) }
-    ensures fixed { T.fixed tracer.new ≡ T.fixed tracer.old }
+    ensures tells { OnOk result ((number : ℕ) → untold_steps number way.new.items ++ steps_alone program.now end number core.new.timed ≡ untold_steps number way.old.items ++ steps_alone program.now end number core.old.timed) }
     ensures nearer { IfOk result (λ some. some ≡ true → steps_left end core.new.timed < steps_left end core.old.timed) }
     ensures stays { IfOk result (λ some. some ≡ false → core.new ≡ core.old) }
+    ensures fits { All FitsLeg way.old.items → All FitsLeg way.new.items }
     ensures latest { latest_clock end core.new.timed ≤ latest_clock end core.old.timed }
     ensures no_more { most_accesses end core.new.timed ≤ most_accesses end core.old.timed }
     ensures number { core.new.number ≡ core.old.number }
@@ -96,30 +95,28 @@ fn tell_stretch<T: Tracer>(
     let pc = core.core().pc();
     let known = program.stretch(pc);
     let count = core.run_plain(program, end, known);
-    if count > 1 {
-        tracer.executed_all(number, pc, count)?;
-    } else if count == 1 {
-        tracer.executed(number, pc)?;
+    if count == 0 {
+        return Ok(false);
     }
-    Ok(count > 0)
+    add_leg(way, pc, count)?;
+    Ok(true)
 }
 
-/// The next instruction of a core that goes on by itself, which is told where it was counted.
-/// Answers whether the core went on.
-fn tell_step<T: Tracer>(
+/// The next instruction of a core that goes on by itself, a leg where it was counted. Answers
+/// whether the core went on.
+fn run_step(
     program: &DecodedProgram<'_>,
     end: Cycle,
-    number: u16,
     core: &mut BoundCore,
-    tracer: &mut T,
+    way: &mut Vec<Leg>,
 ) -> Result<bool, NoMemory>
     requires end { end ≤ 10 * 2 ^ 30 }
     requires clock { latest_clock end core.old.timed ≤ 2 ^ 57 }
     ensures goes_on { IfOk result (λ on. goes_on_alone end core.old.timed ≡ on) }
     ensures next { IfOk result (λ on. on ≡ true → core.new.timed ≡ after_instruction program.now core.old.timed) }
     ensures stays { IfOk result (λ on. on ≡ false → core.new ≡ core.old) }
-    ensures told { IfOk result (λ on. T.steps tracer.new ≡ T.steps tracer.old ++ (if on then executed_by number core.old.timed core.new.timed else [])) }
-    ensures fixed { T.fixed tracer.new ≡ T.fixed tracer.old }
+    ensures tells { IfOk result (λ on. (number : ℕ) → untold_steps number way.new.items ≡ untold_steps number way.old.items ++ (if on then executed_by number core.old.timed core.new.timed else [])) }
+    ensures fits { All FitsLeg way.old.items → All FitsLeg way.new.items }
     ensures nearer { IfOk result (λ on. on ≡ true → steps_left end core.new.timed < steps_left end core.old.timed) }
     ensures latest { latest_clock end core.new.timed ≤ latest_clock end core.old.timed }
     ensures no_more { most_accesses end core.new.timed ≤ most_accesses end core.old.timed }
@@ -132,10 +129,25 @@ fn tell_step<T: Tracer>(
     match core.step_alone(program, end) {
         Some(counted) => {
             if counted == 1 {
-                tracer.executed(number, pc)?;
+                add_leg(way, pc, 1)?;
             }
             Ok(true)
         }
         None => Ok(false),
     }
+}
+
+/// Adds the leg of so many instructions that follow each other, the first of them at `pc`.
+fn add_leg(way: &mut Vec<Leg>, pc: u64, count: u64) -> Result<(), NoMemory>
+    requires some { 0 < count }
+    requires fits { pc + 4 * (count - 1) < 2 ^ 64 }
+    ensures tells { OnOk result ((number : ℕ) → untold_steps number way.new.items ≡ untold_steps number way.old.items ++ stretch_steps number pc count) }
+    ensures fits { All FitsLeg way.old.items → All FitsLeg way.new.items }
+{
+    way.push(Leg {
+        pc,
+        count,
+        made: false,
+    })?;
+    Ok(())
 }

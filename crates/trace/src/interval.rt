@@ -15,7 +15,7 @@ ghost use Rattle.run.specs.IntervalWeave.{interval_of};
 ghost use Rattle.run.specs.Simulation.{HasNextInterval, HasRoomForInterval, IsBoundPhase, LeadsTo};
 ghost use Rattle.trace.specs.Port.{leaves_shards, phase_of};
 ghost use Rattle.trace.specs.Trace.{Ended, interval_steps, phase_steps};
-ghost use Rattle.trace.specs.TracedRun.{HasFired, as_run};
+ghost use Rattle.trace.specs.TracedRun.{HasBounded, HasFired, as_run};
 ghost use Rattle.trace.specs.Turns.{HaveTurned};
 
 use crate::Tracer;
@@ -68,10 +68,30 @@ pub fn interval_under<T: Tracer>(
     shard::laws::marks();
     shard::laws::shards_stand_for_a_machine();
     bound_core::laws::shards_do_as_the_machine();
-    noc_mesh::laws::net_events_are_in_a_row();
     let entries = bound_under(
         run, alloc, machine, program, net, end, interval, turns, list, tracer,
     )?;
+    Ok(weave_interval(run, alloc, machine, net, entries, tracer)?)
+}
+
+/// Fires the events of an interval whose bound phase is done, with these accesses, takes them in, and
+/// tells its end. Answers the list of the accesses, for its memory.
+pub fn weave_interval<T: Tracer>(
+    run: &mut TracedRun,
+    alloc: Global,
+    machine: &Machine,
+    net: &Net,
+    entries: Entries,
+    tracer: &mut T,
+) -> Result<Vec<Entry>, NoMemory>
+    requires machine { IsMachine machine.now }
+    requires net { IsNetOf machine.now net.now }
+    requires bounded { (image : MemoryImage) × (s : RunState) × (turns : List ℕ) × HasBounded machine.now image s turns (as_run machine.now run.old) entries }
+    ensures leads { OnOk result ((image : MemoryImage) (s : RunState) (turns : List ℕ) → HasBounded machine.now image s turns (as_run machine.now run.old) entries → LeadsTo machine.now image s turns (as_run machine.now run.new)) }
+    ensures told { OnOk result ((image : MemoryImage) (s : RunState) (turns : List ℕ) → HasBounded machine.now image s turns (as_run machine.now run.old) entries → T.steps tracer.new ≡ T.steps tracer.old ++ Ended (woven_interval machine.now s.comps entries) ∷ []) }
+    ensures fixed { T.fixed tracer.new ≡ T.fixed tracer.old }
+{
+    noc_mesh::laws::net_events_are_in_a_row();
     let graph = events_of(alloc, machine, net, &entries, &run.comps)?;
     let fired = weave_by_core(alloc, net, &graph, machine.cores, &mut run.comps)?;
     take_in(run, alloc, machine, &entries, graph, fired, tracer)?;
@@ -120,7 +140,8 @@ fn bound_under<T: Tracer>(
         &mut run.way,
         tracer,
     )?;
-    Ok(run.port.take_sorted(alloc))
+    let entries = run.port.take_sorted(alloc)?;
+    Ok(entries)
 }
 
 /// Runs the cores to the end of this interval under a list of turns, or answers the first place of

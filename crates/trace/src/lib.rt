@@ -1,7 +1,10 @@
-//! The replay of a run on one thread that tells each of its steps.
+//! The run of an executable on one thread, under a schedule or core after core, that tells each of
+//! its steps.
 #![tactic(auto)]
 
 mod alone;
+mod each_core;
+mod in_turn;
 mod interval;
 pub mod laws;
 mod logged_port;
@@ -12,4 +15,4 @@ mod tracing;
 mod turns;
 
 pub use tracer::Tracer;
-pub use tracing::trace;
+pub use tracing::{trace, trace_in_turn};

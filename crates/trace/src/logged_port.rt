@@ -11,7 +11,6 @@ ghost use Rattle.bound_core.specs.ShardPort.{base_of, l1i_of, room_of, size_of};
 ghost use Rattle.bound_core.specs.ShardWorld.{begun_world, restarted};
 ghost use Rattle.trace.specs.Port.{Gives, leaves_shards};
 
-use access_log::sort;
 use bound_core::{PartsPort, Port};
 use elf_load::Image;
 use machine_desc::Machine;
@@ -21,10 +20,13 @@ use std::marker::Model;
 use std::mem;
 use zs_num::{Cycle, Entries, Entry, NoMemory, Request, Stamp};
 
-/// The hits of loads, and those of stores: what is compiled for each is compiled for one call.
+/// The hits of loads, those of stores and those of fetches: what is compiled for each is compiled for
+/// one call.
 struct Loads;
 
 struct Stores;
+
+struct Fetches;
 
 /// The caches and the memory of a machine, and the accesses that they have served in the interval
 /// so far, in the order of the turns. It knows whether the stamps of these have risen from each to
@@ -150,17 +152,18 @@ impl LoggedPort {
     }
 
     /// Hands out the accesses, in recorded order, and keeps none.
-    pub fn take_sorted(&mut self, alloc: Global) -> Entries
+    pub fn take_sorted(&mut self, alloc: Global) -> Result<Entries, NoMemory>
         requires { HaveDistinctKeys self.old.entries }
-        ensures entries { result ≡ recorded_order self.old.entries }
+        ensures entries { IfOk result (λ entries. entries ≡ recorded_order self.old.entries) }
         ensures none { self.new.entries ≡ [] }
         ensures world { self.new.world ≡ self.old.world }
     {
         let mut entries = mem::replace(&mut self.entries, Vec::new(alloc));
-        put_in_order(&mut entries, self.rises);
+        let rises = self.rises;
         self.last = 0;
         self.rises = true;
-        Entries::of(entries)
+        put_in_order(&mut entries, rises)?;
+        Ok(Entries::of(entries))
     }
 }
 
@@ -196,6 +199,12 @@ impl Port for LoggedPort {
         self.hit::<Stores>(start, Request::Store { addr, width, value })
             .is_some()
     }
+
+    #[inline(always)]
+    fn fetch_hit(&mut self, start: Cycle, addr: u64) -> bool {
+        self.hit::<Fetches>(start, Request::Fetch { addr })
+            .is_some()
+    }
 }
 
 /// Whether stamps that rose up to the last one, if they did, have risen with the next one too.
@@ -206,15 +215,18 @@ fn rises_to(rose: bool, last: Stamp, next: Stamp) -> bool
     rose && last < next
 }
 
-/// Puts accesses into recorded order. Where their stamps rise, they stand in it.
-fn put_in_order(entries: &mut Vec<Entry>, rises: bool)
+/// Puts accesses into recorded order. Where their stamps rise, they stand in it. The sort is a stable
+/// one, since that merges what rises, as the accesses of each core do.
+fn put_in_order(entries: &mut Vec<Entry>, rises: bool) -> Result<(), NoMemory>
     requires keys { HaveDistinctKeys entries.old.items }
     requires rising { rises ≡ true → AreRising 0 entries.old.items }
-    ensures { entries.new.items ≡ recorded_order entries.old.items }
+    ensures { OnOk result (entries.new.items ≡ recorded_order entries.old.items) }
 {
-    if !rises {
-        sort(entries);
+    if rises {
+        return Ok(());
     }
+    entries.sort_by_key(|e| (e.stamp, e.core))?;
+    Ok(())
 }
 
 /// The same entry, made anew of its fields. An entry that is moved as a whole takes along the

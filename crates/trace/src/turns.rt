@@ -17,7 +17,7 @@ ghost use Rattle.trace.specs.Turns.{GoesAhead, HaveTaken, IsOnItsWay, TakesAcces
 use crate::Tracer;
 use crate::alone::run_alone;
 use crate::logged_port::LoggedPort;
-use crate::telling::tell_way;
+use crate::telling::{tell_legs, tell_way};
 use bound_core::{BoundCore, Turned};
 use noc_mesh::Net;
 use replay::ReplayFail;
@@ -32,7 +32,7 @@ const PASSES: u64 = 10;
 /// Takes the turns of a list in this interval, and then has each core end it. Where the list is not
 /// legal, it answers the first place that is not: the core there has no access before it ends its
 /// interval; or it is the place after the last, and a core still has one. The legs of the cores' ways
-/// are put into `way`, as long as there is room for them.
+/// are put into `way`.
 pub fn take_turns<T: Tracer>(
     program: &DecodedProgram<'_>,
     net: &Net,
@@ -128,7 +128,7 @@ fn take_stretch<T: Tracer>(
             return Ok(taken);
         }
         let core = &mut cores[usize::from(number)];
-        let took = take_turn(program, net, end, number, core, port, tracer)?;
+        let took = take_turn(program, net, end, number, core, port, way, tracer)?;
         if !took {
             return Ok(taken);
         }
@@ -162,11 +162,26 @@ fn take_hits<T: Tracer>(
     ensures count { length cores.new ≡ length cores.old }
 {
     let core = &mut cores[usize::from(number)];
-    if core.halted().is_some() || core.clock() >= end || core.core().is_fetching() {
+    if core.halted().is_some() || core.clock() >= end {
         return Ok(0);
     }
+    let most = most_hits(core, most);
     let taken = take_told_hits(program, net, end, number, most, core, port, way, tracer)?;
     Ok(taken)
+}
+
+/// How many of so many turns may be taken as hits. Of those of a core that fetches one is left over:
+/// where its last hit is a fetch, it goes on to take the instruction that it fetched, and does not
+/// stand behind the turn.
+fn most_hits(core: &BoundCore, turns: usize) -> usize
+    ensures few { result ≤ turns }
+    ensures all { 0 < turns → result ≡ turns → core.now.timed.core.fetching ≡ false }
+{
+    if core.core().is_fetching() {
+        turns.saturating_sub(1)
+    } else {
+        turns
+    }
 }
 
 /// The same of a core, which has this number.
@@ -225,7 +240,7 @@ fn end_all<T: Tracer>(
 {
     for (number, core) in cores.iter_mut().enumerate() {
         go_ahead(program, net, end, number as u16, core, port, way, tracer)?;
-        let took = take_turn(program, net, end, number as u16, core, port, tracer)?;
+        let took = take_turn(program, net, end, number as u16, core, port, way, tracer)?;
         if took {
             return Ok(false);
         }
@@ -274,6 +289,7 @@ fn take_turn<T: Tracer>(
     number: u16,
     core: &mut BoundCore,
     port: &mut LoggedPort,
+    way: &mut Vec<Leg>,
     tracer: &mut T,
 ) -> Result<bool, NoMemory>
     requires end { end ≤ 10 * 2 ^ 30 }
@@ -287,7 +303,9 @@ fn take_turn<T: Tracer>(
     ensures fixed { T.fixed tracer.new ≡ T.fixed tracer.old }
 {
     port.choose(number);
-    run_alone(program, end, number, core, tracer)?;
+    way.clear();
+    run_alone(program, end, core, way)?;
+    tell_legs(number, way, tracer)?;
     match core.core().request() {
         Some(request) => {
             take_access(program, net, end, request, core, port, tracer)?;
@@ -298,7 +316,7 @@ fn take_turn<T: Tracer>(
 }
 
 /// The access of a core that stands there.
-fn take_access<T: Tracer>(
+pub fn take_access<T: Tracer>(
     program: &DecodedProgram<'_>,
     net: &Net,
     end: Cycle,

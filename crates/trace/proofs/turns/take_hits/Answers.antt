@@ -175,7 +175,9 @@ returns-clause-whole g c = λ some all rest.
     in
     let before = g.T.Tracer.steps c.args.tracer.now in
     let later = g.T.Tracer.steps c.take_told_hits.new.tracer in
-    let told = turns_told time image end was.0 was.1 n was.2 cores (chosen port number) port_after h core after.timed c.requires.end here did.entries these did.hits did.told before later did.tells (did.stops some all)
+    let same : c.most_hits-most.result ≡ c.args.most = omega (arith, all, c.in_ok-taken.ensures.few, c.most_hits-most.ensures.few) in
+    let told = turns_told time image end was.0 was.1 n was.2 cores (chosen port number) port_after h core after.timed c.requires.end here did.entries these did.hits did.told before later did.tells
+    (did.stops (c.most_hits-most.ensures.all some same) (omega (arith, some, same)) (omega (arith, all, same)))
     (did.are ∙ ap (λ (k : ℕ). before ++ told_steps k did.told did.entries) own) rest
     in
     let Later : NumberedCore → List Step = λ x. later ++ phase_steps shards_serve leaves_shards image end time rest (phase_of (slice_set cores n x) port_after) in
@@ -183,3 +185,6 @@ returns-clause-whole g c = λ some all rest.
     ∙ (told
     ∙ (ap (λ (k : ℕ). before ++ phase_steps shards_serve leaves_shards image end time (replicate k n ++ rest) (phase_of cores port)) did.many
     ∙ ap (λ (k : ℕ). before ++ phase_steps shards_serve leaves_shards image end time (replicate c.in_ok-taken.taken k ++ rest) (phase_of cores port)) c.from.ensures))
+
+pub returns-clause-few : goal.returns-clause-few
+returns-clause-few g c = omega (arith, c.in_ok-taken.ensures.few, c.most_hits-most.ensures.few)

@@ -11,7 +11,7 @@ use Rattle.bound_core.proofs.bounded.BoundCore.take_told_hits.Goals as goal
 
 pub run_told_hits-came-requires-clause-room : goal.run_told_hits-came-requires-clause-room
 run_told_hits-came-requires-clause-room g c =
-    let early = c.if-may_tell.ensures.early refl in
+    let early = c.if-may_go_on.ensures.early refl in
     omega (arith, most_before c.args.end c.args.self.now.timed early, c.stint-stint.ensures.accesses, c.requires.room)
 
 pub overflow_add-self : goal.overflow_add-self
@@ -28,16 +28,16 @@ invariant_of-self g c =
     let (told, going, way) = ran.ensures.gone in
     let came = told_on (g.X.Expand.time c.args.expansion.now) c.args.port.now ran.new.port ran.new.self ran.result.clock ran.result.count c.self.view_is c.stint-stint.ensures.is c.requires.core ran.ensures.same going in
     let clock : c.self.inside.clock ≡ c.args.self.now.timed.clock = ap (λ (n : NumberedCore). n.timed.clock) c.self.view_is in
-    let none : c.self.inside.pace ≡ None = ap (λ (n : NumberedCore). n.timed.pace) c.self.view_is ∙ c.if-may_tell.ensures.pace refl in
+    let none : c.self.inside.pace ≡ None = ap (λ (n : NumberedCore). n.timed.pace) c.self.view_is ∙ c.if-may_go_on.ensures.pace refl in
     (omega (arith, clock, came.later, c.self.invariant.0), none_soon c.self.inside.pace ran.result.clock none)
 
-pub returns-then-may_tell-clause-few : goal.returns-then-may_tell-clause-few
-returns-then-may_tell-clause-few g c =
+pub returns-then-may_go_on-clause-few : goal.returns-then-may_go_on-clause-few
+returns-then-may_go_on-clause-few g c =
     let (told, going, way) = c.run_told_hits-came.ensures.gone in
     omega (arith, going.gone.few, c.stint-stint.ensures.accesses)
 
-pub returns-then-may_tell-clause-told : goal.returns-then-may_tell-clause-told
-returns-then-may_tell-clause-told g c =
+pub returns-then-may_go_on-clause-told : goal.returns-then-may_go_on-clause-told
+returns-then-may_go_on-clause-told g c =
     let ran = c.run_told_hits-came in
     let (told, going, way) = ran.ensures.gone in
     let came = told_on (g.X.Expand.time c.args.expansion.now) c.args.port.now ran.new.port ran.new.self ran.result.clock ran.result.count c.self.view_is c.stint-stint.ensures.is c.requires.core ran.ensures.same going in
@@ -49,38 +49,38 @@ returns-then-may_tell-clause-told g c =
       tells = came.tells;
       hits = came.hits;
       way_is = way;
-      stops = λ some all. came.stops (omega (arith, some, all)) (c.if-may_tell.ensures.plain refl) (omega (arith, all, going.gone.few, c.stint-stint.ensures.accesses));
+      stops = λ plain some all. came.stops (omega (arith, some, all)) plain (omega (arith, all, going.gone.few, c.stint-stint.ensures.accesses));
     }
 
-pub returns-then-may_tell-clause-begun : goal.returns-then-may_tell-clause-begun
-returns-then-may_tell-clause-begun g c =
+pub returns-then-may_go_on-clause-begun : goal.returns-then-may_go_on-clause-begun
+returns-then-may_go_on-clause-begun g c =
     let ran = c.run_told_hits-came in
     let (told, going, way) = ran.ensures.gone in
     let came = told_on (g.X.Expand.time c.args.expansion.now) c.args.port.now ran.new.port ran.new.self ran.result.clock ran.result.count c.self.view_is c.stint-stint.ensures.is c.requires.core ran.ensures.same going in
     omega (arith, came.later)
 
-pub returns-then-may_tell-clause-within : goal.returns-then-may_tell-clause-within
-returns-then-may_tell-clause-within g c =
+pub returns-then-may_go_on-clause-within : goal.returns-then-may_go_on-clause-within
+returns-then-may_go_on-clause-within g c =
     let ran = c.run_told_hits-came in
     let (told, going, way) = ran.ensures.gone in
     let came = told_on (g.X.Expand.time c.args.expansion.now) c.args.port.now ran.new.port ran.new.self ran.result.clock ran.result.count c.self.view_is c.stint-stint.ensures.is c.requires.core ran.ensures.same going in
     omega (arith, came.in_time)
 
-pub returns-then-may_tell-clause-latest : goal.returns-then-may_tell-clause-latest
-returns-then-may_tell-clause-latest g c =
+pub returns-then-may_go_on-clause-latest : goal.returns-then-may_go_on-clause-latest
+returns-then-may_go_on-clause-latest g c =
     let ran = c.run_told_hits-came in
     let (told, going, way) = ran.ensures.gone in
     let came = told_on (g.X.Expand.time c.args.expansion.now) c.args.port.now ran.new.port ran.new.self ran.result.clock ran.result.count c.self.view_is c.stint-stint.ensures.is c.requires.core ran.ensures.same going in
     came.latest
 
-pub returns-then-may_tell-clause-port_room : goal.returns-then-may_tell-clause-port_room
-returns-then-may_tell-clause-port_room g c =
+pub returns-then-may_go_on-clause-port_room : goal.returns-then-may_go_on-clause-port_room
+returns-then-may_go_on-clause-port_room g c =
     let (told, going, way) = c.run_told_hits-came.ensures.gone in
     going.gone.room
 
 -- a core that does not go on
-pub returns-else-may_tell-clause-told : goal.returns-else-may_tell-clause-told
-returns-else-may_tell-clause-told g c = record {
+pub returns-else-may_go_on-clause-told : goal.returns-else-may_go_on-clause-told
+returns-else-may_go_on-clause-told g c = record {
   entries = [];
   told = [];
   many = refl;
@@ -88,5 +88,5 @@ returns-else-may_tell-clause-told g c = record {
   tells = refl;
   hits = all_none (λ e. e.outcome ≡ Hit);
   way_is = sym (append-nil (told_of c.args.way.now.items));
-  stops = λ some none. absurd (omega (arith, some, none));
+  stops = λ plain some none. absurd (omega (arith, some, none));
 }
