@@ -1,5 +1,5 @@
 -- How a call ended that was not begun, and how one ended whose parts are known.
-use Rattle.std.proofs.Common.{◌≡◌, [], Option, Some, None, IfSome, inl, inr, refl, subst, sym}
+use Rattle.std.proofs.Common.{◌≡◌, Option, Some, None, IfSome, inl, inr, refl, subst, sym}
 use Rattle.zsim.specs.declared.ended.Kept.{Kept}
 use Rattle.zsim.specs.declared.ended.Status.{Status}
 use Rattle.zsim.specs.declared.ended.Status.TheVariants as status

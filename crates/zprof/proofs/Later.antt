@@ -1,5 +1,5 @@
 -- What holds of a call's files after two parts of it, of which the first changed nothing: of the schedule, and of the run.
-use Rattle.std.proofs.Common.{◌⊎◌, ℕ, Bool, List, [], Option, Some, None, inl, inr}
+use Rattle.std.proofs.Common.{ℕ, Bool, List, Option, Some, None, inl, inr}
 use Rattle.access_log.specs.Schedule.{ScheduleState}
 use Rattle.elf_load.specs.MemoryImage.{MemoryImage}
 use Rattle.machine_desc.specs.declared.machine.Machine.{Machine}
@@ -14,6 +14,7 @@ use Rattle.zsim.proofs.FilesSoFar.{finishes_later, not_taken, still_quiet, untou
 use Rattle.zprof.specs.CommandLine.{Profiling}
 use Rattle.zprof.specs.Ended.{ProfilesAs}
 use Rattle.zprof.specs.Order.{HasNoOrder, IsOrderOf}
+use Rattle.zprof.specs.Steps.{LooksAs}
 
 module _ {F : Type 0} (is_seen : Bool) (contents : F → List ℕ → Option (List ℕ)) (faults : F → ℕ) (latest : F → Option Fault) (before between after : F) where
   abbrev first : FilesSeen
@@ -40,8 +41,8 @@ module _ {F : Type 0} (is_seen : Bool) (contents : F → List ℕ → Option (Li
 
     pub no_order_later : (s : Status) (machine : Machine) (image : MemoryImage) (name : Option (List ℕ)) (schedule : ScheduleState) (sched_file : List ℕ)
         → HasNoOrder s machine image name schedule sched_file second → HasNoOrder s machine image name schedule sched_file both
-    no_order_later s machine image None schedule sched_file (is, none, in_order, then_quiet) =
-        (is, none, in_order, still_quiet is_seen contents faults latest before between after quiet then_quiet)
+    no_order_later s machine image None schedule sched_file (is, none, cores, in_order, then_quiet) =
+        (is, none, cores, in_order, still_quiet is_seen contents faults latest before between after quiet then_quiet)
     no_order_later s machine image (Some name) schedule sched_file (empty, not) = (
       empty,
       not_taken is_seen contents faults latest before between after quiet (λ seen. WasRead seen name schedule_limit) (schedule_by machine) (Some name) s sched_file
@@ -56,3 +57,9 @@ module _ {F : Type 0} (is_seen : Bool) (contents : F → List ℕ → Option (Li
         inr (inl (at, is, illegal, untouched_later is_seen contents faults latest before between after quiet out untouched))
     profiles_later s machine image c schedule out (inr (inr (p, finishes))) =
         inr (inr (p, finishes_later is_seen contents faults latest before between after quiet s p.results.limit (report_of machine c.brief p.results) p.outputs out finishes))
+
+    pub looks_later : (s : Status) (machine : Machine) (image : MemoryImage) (c : Profiling) (name : Option (List ℕ)) (schedule : ScheduleState) (sched_file : List ℕ) (out : SinkSeen)
+        → LooksAs s machine image c name schedule sched_file second out → LooksAs s machine image c name schedule sched_file both out
+    looks_later s machine image c name schedule sched_file out (inl (none, silent)) = inl (no_order_later s machine image name schedule sched_file none, silent)
+    looks_later s machine image c name schedule sched_file out (inr (order, profiles)) =
+        inr (order_later machine image name schedule sched_file order, profiles_later s machine image c schedule out profiles)

@@ -1,5 +1,6 @@
 pub mod Begun
 pub mod Later
+pub mod Looked
 pub mod OneMore
 pub mod Profiles
 pub mod Said

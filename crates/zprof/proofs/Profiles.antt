@@ -1,5 +1,5 @@
--- What came of a run that was looked at, by what its outputs came to.
-use Rattle.std.proofs.Common.{◌≡◌, ◌⊎◌, List, inl, inr, subst}
+-- What came of a run that was looked at, by what was written of it.
+use Rattle.std.proofs.Common.{◌≡◌, ◌⊎◌, List, inl, inr, subst, sym}
 use Rattle.access_log.specs.Schedule.{ScheduleState}
 use Rattle.elf_load.specs.MemoryImage.{MemoryImage}
 use Rattle.machine_desc.specs.declared.machine.Machine.{Machine}
@@ -15,12 +15,30 @@ use Rattle.zsim.specs.Steps.{FinishesAs, IsUntouched}
 use Rattle.zprof.specs.CommandLine.{Profiling}
 use Rattle.zprof.specs.Ended.{ProfilesAs}
 use Rattle.zprof.specs.ProfileFiles.{AreFilesOf}
+use Rattle.zprof.specs.Steps.{WritesAs}
 
-pub profiles_as : (s : Status) (machine : Machine) (image : MemoryImage) (c : Profiling) (schedule : ScheduleState) (files : FilesSeen) (out : SinkSeen) (r : Results)
-    → IsRunOf machine image schedule.lists r → HasCounts machine r → (steps : List Step) → IsTraceOf machine image schedule.lists steps
-    → (outputs : List NamedFile) → AreFilesOf machine c steps r outputs
+-- these outputs were written, or nothing
+pub writes_as : (s : Status) (machine : Machine) (c : Profiling) (steps : List Step) (r : Results) (outputs : List NamedFile) (files : FilesSeen) (out : SinkSeen)
+    → AreFilesOf machine c steps r outputs
     → ((s ≡ status.NoMemory) × IsUntouched files out) ⊎ FinishesAs s r.limit (report_of machine c.brief r) outputs files out
-    → ProfilesAs s machine image c schedule files out
-profiles_as s machine image c schedule files out r run counted steps trace outputs are (inl none) = inl none
-profiles_as s machine image c schedule files out r run counted steps trace outputs are (inr finishes) =
-    inr (inr (record { results = r; run = run; counted = counted; steps = steps; trace = trace; outputs = outputs; files = are }, finishes))
+    → WritesAs s machine c steps r files out
+writes_as s machine c steps r outputs files out are (inl none) = inl none
+writes_as s machine c steps r outputs files out are (inr finishes) = inr (outputs, are, finishes)
+
+-- the steps that were told are those of the run
+pub profiles_as : (s : Status) (machine : Machine) (image : MemoryImage) (c : Profiling) (schedule : ScheduleState) (files : FilesSeen) (out : SinkSeen) (r : Results)
+    → IsRunOf machine image schedule.lists r → HasCounts machine r → (steps told : List Step) → IsTraceOf machine image schedule.lists steps → told ≡ steps
+    → WritesAs s machine c told r files out → ProfilesAs s machine image c schedule files out
+profiles_as s machine image c schedule files out r run counted steps told trace is (inl none) = inl none
+profiles_as s machine image c schedule files out r run counted steps told trace is (inr (outputs, are, finishes)) = inr (inr (
+  record {
+    results = r;
+    run = run;
+    counted = counted;
+    steps = told;
+    trace = subst (λ (s : List Step). IsTraceOf machine image schedule.lists s) (sym is) trace;
+    outputs = outputs;
+    files = are;
+  },
+  finishes,
+))

@@ -1,5 +1,5 @@
 -- What was said of the line of a status.
-use Rattle.std.proofs.Common.{◌≡◌, ◌<◌, ℕ, List, [], ◌++◌, length, ap, append-nil, refl, subst, sym, zero-lt-suc, ◌∙◌}
+use Rattle.std.proofs.Common.{◌≡◌, ◌<◌, ◌++◌, length, ap, append-nil, refl, sym, zero-lt-suc, ◌∙◌}
 use Rattle.zsim.specs.declared.ended.Said.TheVariants as said
 use Rattle.zsim.specs.declared.ended.Status.{Status}
 use Rattle.zsim.specs.declared.ended.Status.TheVariants as status

@@ -12,7 +12,7 @@ pub record Profiling : Type 0 where
   -- the name of the machine's file, or None for the built-in machine
   pub machine : Option (List ℕ)
   pub exe : Exe
-  -- the name of the schedule's file, or None for the order that a run by one worker gives
+  -- the name of the schedule's file, or None for the order core after core
   pub schedule : Option (List ℕ)
   -- the name of the folder of the files
   pub folder : List ℕ

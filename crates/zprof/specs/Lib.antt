@@ -7,3 +7,4 @@ pub mod LinesUsed
 pub mod HaltRows
 pub mod ProfileFiles
 pub mod Ended
+pub mod Steps

@@ -15,7 +15,7 @@ pub struct Profiling<'w> {
     /// The name of the machine's file, or None for the built-in machine.
     pub machine: Option<&'w str>,
     pub exe: Exe<'w>,
-    /// The name of the schedule's file, or None for the order that a run by one worker gives.
+    /// The name of the schedule's file, or None for the order core after core.
     pub schedule: Option<&'w str>,
     /// The name of the folder of the files.
     pub folder: &'w str,

@@ -13,5 +13,6 @@ mod order;
 mod profile_run;
 mod top;
 mod watched;
+mod written;
 
 pub use top::zprof;

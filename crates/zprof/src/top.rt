@@ -10,12 +10,9 @@ ghost use Rattle.zprof.specs.ErrorLine.{profile_line};
 
 use crate::command_line::{Profiling, command_of};
 use crate::error_line::profile_line;
-use crate::order::take_order;
 use crate::profile_run::profile_run;
 use access_log::Schedule;
 use std::alloc::{AllocError, Global};
-use std::sync::Wait;
-use std::thread::Threads;
 use zs_host::{Files, Sink};
 use zs_num::Bytes;
 use zsim::steps::{say_line, take_exe, take_machine};
@@ -23,8 +20,7 @@ use zsim::{Ended, Kept, Said, Status};
 
 /// Does what the words say: they are those after the program's name. The report goes to `out`, the
 /// files of the profile to the folder that the words name, and the line of the status to `err`.
-pub fn zprof<R: Threads + Wait + Sync, F: Files, O: Sink, E: Sink>(
-    rt: &R,
+pub fn zprof<F: Files, O: Sink, E: Sink>(
     alloc: Global,
     words: &[String],
     files: &mut F,
@@ -53,7 +49,7 @@ pub fn zprof<R: Threads + Wait + Sync, F: Files, O: Sink, E: Sink>(
         events: Bytes::of(Vec::new(alloc)),
     };
     let status = match command_of(alloc, words) {
-        Ok(Some(command)) => carry_out(rt, alloc, &command, files, out, &mut kept),
+        Ok(Some(command)) => carry_out(alloc, &command, files, out, &mut kept),
         Ok(None) => Status::Usage,
         Err(AllocError) => Status::NoMemory,
     };
@@ -61,9 +57,8 @@ pub fn zprof<R: Threads + Wait + Sync, F: Files, O: Sink, E: Sink>(
     Ended { status, said, kept }
 }
 
-/// Takes the inputs and the schedule, runs the executable under it, and writes what comes of that.
-fn carry_out<R: Threads + Wait + Sync, F: Files, O: Sink>(
-    rt: &R,
+/// Takes the machine and the executable, runs that, and writes what comes of it.
+fn carry_out<F: Files, O: Sink>(
     alloc: Global,
     command: &Profiling<'_>,
     files: &mut F,
@@ -83,14 +78,10 @@ fn carry_out<R: Threads + Wait + Sync, F: Files, O: Sink>(
         Ok(image) => image,
         Err(status) => return status,
     };
-    let name = command.schedule;
     let (sched_file, schedule) = (&mut kept.sched_file, &mut kept.schedule);
-    match take_order(
-        rt, alloc, &machine, &image, name, files, sched_file, schedule,
-    ) {
-        Ok(()) => profile_run(alloc, &machine, &image, command, &kept.schedule, files, out),
-        Err(status) => status,
-    }
+    profile_run(
+        alloc, &machine, &image, command, files, out, sched_file, schedule,
+    )
 }
 
 /// Says on standard error how the call ended.

@@ -15,6 +15,6 @@ fn main(rt: HostRuntime) -> ExitCode {
     let mut out = RealSink::new(rt.stdout());
     let mut err = RealSink::new(rt.stderr());
     let mut files = RealFiles::new(&rt);
-    let ended = zprof(&rt, alloc, &words, &mut files, &mut out, &mut err);
+    let ended = zprof(alloc, &words, &mut files, &mut out, &mut err);
     ExitCode::from(ended.status.number())
 }

@@ -68,13 +68,12 @@ pub fn call<F: Files>(
 
 /// Calls the profiler on these words, over these files and streams.
 pub fn profile<F: Files>(
-    rt: &(impl Threads + Wait + Sync),
     alloc: Global,
     words: &[String],
     files: &mut F,
     mut streams: Streams,
 ) -> Called {
-    let ended = profile_answer(rt, alloc, words, files, &mut streams.out, &mut streams.err);
+    let ended = profile_answer(alloc, words, files, &mut streams.out, &mut streams.err);
     Called { ended, streams }
 }
 

@@ -65,7 +65,7 @@ impl Scene {
             "err" => self.set_err(alloc, rest),
             "text" => self.write_text(rest, page),
             "call" => self.write_called(rt, alloc, rest, page),
-            "profile" => self.write_profiled(rt, alloc, rest, page),
+            "profile" => self.write_profiled(alloc, rest, page),
             "race" => self.write_race(rt, alloc, rest, page),
             "meet" => self.write_met(rt, alloc, rest, page),
             "count" => self.write_counts(rt, alloc, rest, false, page),
@@ -202,16 +202,10 @@ impl Scene {
     }
 
     /// Writes what a call of the profiler answers.
-    fn write_profiled(
-        &mut self,
-        rt: &(impl Threads + Wait + Sync),
-        alloc: Global,
-        words: &str,
-        page: &mut Page,
-    ) -> Option<()> {
+    fn write_profiled(&mut self, alloc: Global, words: &str, page: &mut Page) -> Option<()> {
         let words = words_of(alloc, words)?;
         let streams = mem::replace(&mut self.streams, Streams::new(alloc)?);
-        let called = profile(rt, alloc, &words, &mut self.files, streams);
+        let called = profile(alloc, &words, &mut self.files, streams);
         called.write(page);
         self.last = Some(called);
         Some(())

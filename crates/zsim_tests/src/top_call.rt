@@ -22,13 +22,12 @@ pub fn answer<R: Threads + Wait + Sync, F: Files, S: Sink>(
 }
 
 /// What the profiler answers, of which no clause says anything here either.
-pub fn profile_answer<R: Threads + Wait + Sync, F: Files, S: Sink>(
-    rt: &R,
+pub fn profile_answer<F: Files, S: Sink>(
     alloc: Global,
     words: &[String],
     files: &mut F,
     out: &mut S,
     err: &mut S,
 ) -> Ended {
-    zprof(rt, alloc, words, files, out, err)
+    zprof(alloc, words, files, out, err)
 }

@@ -1,5 +1,5 @@
 -- All registers are there in the end.
-use Rattle.std.proofs.Common.{◌≡◌, ◌<◌, ◌≤◌, List, [], ◌∷◌, ◌++◌, ℕ, length, slice_get, Some, ap, sym, ◌∙◌, arith, rules}
+use Rattle.std.proofs.Common.{◌≡◌, ◌<◌, List, [], ◌∷◌, ◌++◌, ℕ, length, slice_get, Some, ap, sym, ◌∙◌, rules}
 use Rattle.std.proofs.lemmas.Option.{slice_get-get_or}
 use Rattle.zprof.proofs.OneMore.{take_on}
 use Rattle.zprof.proofs.halt_rows.registers.Goals as goal

@@ -1,5 +1,5 @@
 -- A core more has its row.
-use Rattle.std.proofs.Common.{◌≡◌, ◌+◌, ◌<◌, ◌∙◌, ℕ, List, [], ◌∷◌, ◌++◌, length, map, slice_get, Some, ap, subst, sym, rules, arith}
+use Rattle.std.proofs.Common.{◌≡◌, ◌<◌, ℕ, List, length, map, slice_get, Some, subst, sym, rules}
 use Rattle.std.proofs.lemmas.Option.{slice_get-get_or}
 use Rattle.bound_core.specs.NumberedCores.{NumberedCore}
 use Rattle.profile_rows.specs.declared.halt_row.HaltRow.{HaltRow}

@@ -1,5 +1,5 @@
 -- A row more has its bytes.
-use Rattle.std.proofs.Common.{◌≡◌, ◌+◌, ℕ, List, [], ◌∷◌, ◌++◌, slice_get, Some, subst, sym, rules, arith}
+use Rattle.std.proofs.Common.{◌≡◌, ℕ, List, slice_get, Some, subst, sym, rules}
 use Rattle.std.proofs.lemmas.Option.{get_or_from_slice_get}
 use Rattle.profile_rows.specs.declared.line_row.LineRow.{LineRow}
 use Rattle.zprof.specs.LinesUsed.{IsUsed}

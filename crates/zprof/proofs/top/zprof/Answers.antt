@@ -1,12 +1,12 @@
 -- The words were a command, or none, or memory ran out before that was known.
-use Rattle.std.proofs.Common.{◌≡◌, ◌∙◌, IfSome, Option, ap, map, option_map, refl, rules, string_bytes, sym}
+use Rattle.std.proofs.Common.{◌∙◌, IfSome, Option, ap, map, option_map, refl, string_bytes, sym}
 use Rattle.zsim.specs.declared.ended.Kept.{Kept}
 use Rattle.zsim.specs.declared.ended.Status.{Status}
 use Rattle.zsim.specs.declared.ended.Status.TheVariants as status
-use Rattle.zsim.specs.Ended.{KeepsNothing, no_intervals}
+use Rattle.zsim.specs.Ended.{KeepsNothing}
 use Rattle.zsim.specs.Seen.{files_seen, sink_seen}
 use Rattle.zprof.specs.declared.command_line.Profiling.{Profiling as ProfilingInCode}
-use Rattle.zprof.specs.CommandLine.{Profiling, command_of}
+use Rattle.zprof.specs.CommandLine.{command_of}
 use Rattle.zprof.specs.CommandValue.{profiling_value}
 use Rattle.zprof.specs.Ended.{EndsAs}
 use Rattle.zprof.proofs.Begun.{not_begun, of_command, of_none, put_in}

@@ -1,14 +1,13 @@
 -- The files have the rows of the profile.
-use Rattle.std.proofs.Common.{◌≡◌, ◌∙◌, List, [], ◌∷◌, ap, ap₂, subst, sym, true, rules, codes}
+use Rattle.std.proofs.Common.{◌≡◌, List, [], ◌∷◌, ap, ap₂, subst, rules}
 use Rattle.trace.specs.Trace.{Step}
 use Rattle.profile.specs.Listed.{AreAddressRows}
 use Rattle.profile.specs.Profiled.{Profiled, series_in}
 use Rattle.profile.specs.Series.{AreSeries}
 use Rattle.zsim.specs.Outputs.{NamedFile}
-use Rattle.zprof.specs.CommandValue.{profiling_value}
 use Rattle.zprof.specs.HaltRows.{AreHaltRows}
 use Rattle.zprof.specs.LinesUsed.{AreLinesUsed}
-use Rattle.zprof.specs.ProfileFiles.{AreFilesOf, ProfileRows, profile_of}
+use Rattle.zprof.specs.ProfileFiles.{profile_of}
 use Rattle.zprof.proofs.folder.Folder.of.Goals as goal
 
 pub returns : goal.returns

@@ -1,0 +1,23 @@
+-- The steps that were told are those of the run, which went core after core.
+use Rattle.std.proofs.Common.{◌≡◌, ◌∙◌, ◌++◌, ap, inr, refl}
+use Rattle.access_log.specs.Schedule.{ScheduleState}
+use Rattle.zsim.specs.Seen.{files_seen, sink_seen}
+use Rattle.zprof.specs.CommandValue.{profiling_value}
+use Rattle.zprof.proofs.Profiles.{profiles_as}
+use Rattle.zprof.proofs.profile_run.profile_in_turn.Goals as goal
+
+pub returns-in-Ok-clause-looks : goal.returns-in-Ok-clause-looks
+returns-in-Ok-clause-looks g c =
+    let files = g.F.Files in
+    let sink = g.O.Sink in
+    let written = files_seen files.is_seen files.contents files.faults files.latest c.args.files.now c.write_profile.new.files in
+    let out = sink_seen sink.is_seen sink.bytes sink.faults c.args.out.now c.write_profile.new.out in
+    let command = profiling_value c.args.command.now in
+    let made = c.in-Ok.ensures in
+    let steps = made.told.0 in
+    let told = c.trace_in_turn.new.tracer.first.steps in
+    let is : told ≡ steps = made.told.2 ∙ ap (λ w. w.first.steps ++ steps) c.watched-watched.ensures in
+    let profiles = profiles_as c.write_profile.result c.args.machine.now c.args.image.now command c.trace_in_turn.new.schedule written out c.in-Ok.results made.ran made.counted
+    steps told made.told.1 is c.write_profile.ensures in
+    let cores = made.cores ∙ ap (λ (s : ScheduleState). s.cores) c.requires.empty in
+    inr ((refl, cores, made.in_turn, (c.in-Ok.results, made.ran)), profiles)
